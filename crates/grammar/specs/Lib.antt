@@ -1,0 +1,8 @@
+-- The definition of the language: what a reader must believe.
+pub mod Words
+pub mod Tree
+pub mod Parsed
+pub mod Expressions
+pub mod Statements
+pub mod Script
+pub mod Claims

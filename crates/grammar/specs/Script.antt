@@ -1,0 +1,71 @@
+-- The three entries: from an array, a start place and a pool to the answer and every word of the pool.
+use Prim.Native.Nat.{ℕ, suc, _-_, _*_, _/_, min}
+use mathlib.Core.Bool.{not, _&&_}
+use mathlib.Core.List.{List, [], _∷_, _++_}
+use lib.ListN.{length, replicate}
+use lib.Dec.{eqb, ltb, leb}
+use Rattle.grammar.specs.Words.{EOF, valid, Zero}
+use Rattle.grammar.specs.Tree.{Trees, nil, _▸_, sizes, lays, block}
+use Rattle.grammar.specs.Parsed.{Parsed, refused, read, _>>=_, Check, met, failed, need, _>>_, build, turns, BadArray, BadStart}
+use Rattle.grammar.specs.Expressions.{expression}
+use Rattle.grammar.specs.Statements.{statement, statements}
+
+-- How many expressions and statements may be open at once.
+unfoldable pub nesting : ℕ
+nesting = 64
+
+-- The most tokens of an array.
+unfoldable pub longest : ℕ
+longest = 32768
+
+-- One condition and then another.
+unfoldable pub both : Check → Check → Check
+both met c = c
+both (failed n p) c = failed n p
+
+-- The words from a place on: valid ones, EOF last and nowhere else.
+unfoldable pub words-good : (place : ℕ) → List ℕ → Check
+words-good at [] = met
+words-good at (w ∷ []) = need (eqb w EOF) BadArray at
+words-good at (w ∷ v ∷ ws) = both (need (valid w && not (eqb w EOF)) BadArray at) (words-good (suc at) (v ∷ ws))
+
+-- The check of an array: its length and then its words.
+unfoldable pub array-good : List ℕ → Check
+array-good ts = both (need (ltb 0 (length ts) && leb (length ts) longest) BadArray 0) (words-good 0 ts)
+
+-- One expression from a start place.
+unfoldable pub one-expression : List ℕ → (start room : ℕ) → Parsed Trees
+one-expression ts start room = do
+    array-good ts
+    need (ltb start (length ts)) BadStart 0
+    (t, at, room) ← expression ts nesting Zero start room
+    read (t ▸ nil) at room
+
+-- One statement from a start place.
+unfoldable pub one-statement : List ℕ → (start room : ℕ) → Parsed Trees
+one-statement ts start room = do
+    array-good ts
+    need (ltb start (length ts)) BadStart 0
+    statement ts nesting start room
+
+-- A whole script: statements up to EOF, in a block at place 0.
+unfoldable pub whole-script : List ℕ → (room : ℕ) → Parsed Trees
+whole-script ts room = do
+    array-good ts
+    (list, at, room) ← statements ts (expression ts nesting) (statement ts nesting) EOF turns nil 0 room
+    (t, at, room) ← build (block 0 list) at room
+    read (t ▸ nil) at room
+
+-- The rows of a pool of so many words: eight words a row, and no more than 65,535 rows.
+unfoldable pub rows : ℕ → ℕ
+rows words = min (words / 8) 65535
+
+-- The answer by number: 0, the root's reference, the rows used and the current place; or a refusal's number and place, and zeros.
+unfoldable pub answer : Parsed Trees → List ℕ
+answer (refused n p) = n ∷ p ∷ 0 ∷ 0 ∷ []
+answer (read ts at room) = 0 ∷ sizes ts ∷ sizes ts ∷ at ∷ []
+
+-- Every word of a pool of so many words: the rows of what was read and then zeros, or all zeros after a refusal.
+unfoldable pub pool : (words : ℕ) → Parsed Trees → List ℕ
+pool words (refused n p) = replicate words 0
+pool words (read ts at room) = lays ts 0 ++ replicate (words - 8 * sizes ts) 0

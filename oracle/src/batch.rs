@@ -1,0 +1,164 @@
+//! The streams that programs in other languages share with the oracle: cases and answers.
+use crate::model::{self, Entry, MOST_ROWS, ROW};
+use std::io::{self, Read, Write};
+
+/// One question: which entry, from where, with how large a pool, over which words.
+#[derive(Clone, Debug)]
+pub struct Case {
+    pub entry: Entry,
+    pub start: usize,
+    pub pool: usize,
+    pub tokens: Vec<u16>,
+}
+
+/// One answer: the answer words, whether all words behind the used rows are zero, and those rows.
+#[derive(Clone, Debug, PartialEq)]
+pub struct Answer {
+    pub words: [u32; 4],
+    pub clean: u32,
+    pub rows: Vec<u32>,
+}
+
+impl Case {
+    /// The model's answer, read into a pool that is full of other words at first.
+    pub fn answer(&self) -> Answer {
+        // Words behind the last possible row are only zeroed, so a few of them are enough.
+        let length = self.pool.min((MOST_ROWS + 1) * ROW);
+        let mut pool = vec![u32::MAX; length];
+        let words = model::read(self.entry, self.start, &self.tokens, &mut pool);
+        let used = used_words(&words);
+        let clean = pool[used..].iter().all(|&word| word == 0) as u32;
+        pool.truncate(used);
+        Answer { words, clean, rows: pool }
+    }
+}
+
+/// How many pool words an answer's rows take; none after a refusal.
+fn used_words(words: &[u32; 4]) -> usize {
+    if words[0] == 0 {
+        words[2] as usize * ROW
+    } else {
+        0
+    }
+}
+
+fn entry_of(number: u16) -> io::Result<Entry> {
+    match number {
+        0 => Ok(Entry::Expression),
+        1 => Ok(Entry::Statement),
+        2 => Ok(Entry::Script),
+        _ => Err(malformed("a case has an entry above 2")),
+    }
+}
+
+fn malformed(what: &str) -> io::Error {
+    io::Error::new(io::ErrorKind::InvalidData, what)
+}
+
+/// Reads `bytes` fully, or gives false if the stream ends before the first byte.
+fn fill(from: &mut impl Read, bytes: &mut [u8]) -> io::Result<bool> {
+    let mut done = 0;
+    while done < bytes.len() {
+        match from.read(&mut bytes[done..])? {
+            0 if done == 0 => return Ok(false),
+            0 => return Err(malformed("the stream ends in the middle of a record")),
+            count => done += count,
+        }
+    }
+    Ok(true)
+}
+
+/// Reads a record's second part, which must be there.
+fn fill_rest(from: &mut impl Read, length: usize) -> io::Result<Vec<u8>> {
+    let mut bytes = vec![0; length];
+    if length > 0 && !fill(from, &mut bytes)? {
+        return Err(malformed("the stream ends in the middle of a record"));
+    }
+    Ok(bytes)
+}
+
+fn halves(bytes: &[u8]) -> Vec<u16> {
+    bytes.chunks_exact(2).map(|pair| u16::from_le_bytes([pair[0], pair[1]])).collect()
+}
+
+fn fulls(bytes: &[u8]) -> Vec<u32> {
+    let word = |four: &[u8]| u32::from_le_bytes([four[0], four[1], four[2], four[3]]);
+    bytes.chunks_exact(4).map(word).collect()
+}
+
+/// The next case of a batch, or None at its end.
+pub fn read_case(from: &mut impl Read) -> io::Result<Option<Case>> {
+    let mut head = [0; 10];
+    if !fill(from, &mut head)? {
+        return Ok(None);
+    }
+    let head = halves(&head);
+    let tokens = halves(&fill_rest(from, head[4] as usize * 2)?);
+    Ok(Some(Case {
+        entry: entry_of(head[0])?,
+        start: head[1] as usize,
+        pool: head[2] as usize | (head[3] as usize) << 16,
+        tokens,
+    }))
+}
+
+pub fn write_case(to: &mut impl Write, case: &Case) -> io::Result<()> {
+    let pool = case.pool as u32;
+    let count = u16::try_from(case.tokens.len()).map_err(|_| malformed("too many tokens"))?;
+    let head = [case.entry as u16, case.start as u16, pool as u16, (pool >> 16) as u16, count];
+    for word in head.iter().chain(&case.tokens) {
+        to.write_all(&word.to_le_bytes())?;
+    }
+    Ok(())
+}
+
+/// The next answer of a stream, or None at its end.
+pub fn read_answer(from: &mut impl Read) -> io::Result<Option<Answer>> {
+    let mut head = [0; 20];
+    if !fill(from, &mut head)? {
+        return Ok(None);
+    }
+    let head = fulls(&head);
+    let words = [head[0], head[1], head[2], head[3]];
+    if used_words(&words) > MOST_ROWS * ROW {
+        return Err(malformed("an answer claims more than 65535 rows"));
+    }
+    let rows = fulls(&fill_rest(from, used_words(&words) * 4)?);
+    Ok(Some(Answer { words, clean: head[4], rows }))
+}
+
+pub fn write_answer(to: &mut impl Write, answer: &Answer) -> io::Result<()> {
+    for word in answer.words.iter().chain([&answer.clean]).chain(&answer.rows) {
+        to.write_all(&word.to_le_bytes())?;
+    }
+    Ok(())
+}
+
+#[cfg(test)]
+mod tests {
+    use super::*;
+    use crate::words::{EOF, IDENTIFIER, PLUS};
+
+    fn sample() -> Case {
+        let tokens = vec![IDENTIFIER, PLUS, IDENTIFIER, EOF];
+        Case { entry: Entry::Expression, start: 0, pool: 0x1_0003, tokens }
+    }
+
+    #[test]
+    fn a_case_comes_back() {
+        let mut bytes = vec![];
+        write_case(&mut bytes, &sample()).unwrap();
+        let back = read_case(&mut &bytes[..]).unwrap().unwrap();
+        assert_eq!((back.pool, back.tokens), (0x1_0003, sample().tokens));
+        assert!(read_case(&mut &bytes[..bytes.len() - 1]).is_err());
+    }
+
+    #[test]
+    fn an_answer_comes_back() {
+        let mut bytes = vec![];
+        let answer = sample().answer();
+        write_answer(&mut bytes, &answer).unwrap();
+        assert_eq!(bytes.len(), 4 * (5 + 24));
+        assert_eq!(read_answer(&mut &bytes[..]).unwrap().unwrap(), answer);
+    }
+}

@@ -1,0 +1,61 @@
+//! The model: document 01 as a reader over token words, written function for function after 000.
+mod expressions;
+mod pool;
+mod reader;
+mod statements;
+
+use crate::words;
+use reader::{Read, Reader, Refusal};
+
+/// Words of a row, and the most rows a pool has.
+pub const ROW: usize = 8;
+pub const MOST_ROWS: usize = 65535;
+
+/// The three entries that read tokens.
+#[derive(Clone, Copy, Debug, PartialEq)]
+pub enum Entry {
+    Expression,
+    Statement,
+    Script,
+}
+
+/// Reads `tokens` into `pool` and gives the four answer words.
+pub fn read(entry: Entry, start: usize, tokens: &[u16], pool: &mut [u32]) -> [u32; 4] {
+    pool.fill(0);
+    let answer = read_into(entry, start, tokens, pool);
+    answer.unwrap_or_else(|refusal| {
+        pool.fill(0);
+        [refusal.number, refusal.place, 0, 0]
+    })
+}
+
+fn read_into(entry: Entry, start: usize, tokens: &[u16], pool: &mut [u32]) -> Read<[u32; 4]> {
+    check_array(tokens)?;
+    let from = if entry == Entry::Script { 0 } else { start };
+    if from >= tokens.len() {
+        return Err(Refusal { number: 4, place: 0 });
+    }
+    let mut reader = Reader::new(tokens, from, pool);
+    let root = match entry {
+        Entry::Expression => reader.parse_expression(expressions::ZERO),
+        Entry::Statement => reader.parse_statement(),
+        Entry::Script => reader.parse(),
+    }?;
+    Ok([0, root, reader.rows_used(), reader.place()])
+}
+
+/// Refusal 1: the length, then the lowest place with any fault.
+fn check_array(tokens: &[u16]) -> Read<()> {
+    let bad = |place: usize| Err(Refusal { number: 1, place: place as u32 });
+    if tokens.is_empty() || tokens.len() > words::LONGEST {
+        return bad(0);
+    }
+    let last = tokens.len() - 1;
+    let faulty = |(place, &word): (usize, &u16)| {
+        !words::is_valid(word) || (word == words::EOF) != (place == last)
+    };
+    match tokens.iter().enumerate().position(faulty) {
+        Some(place) => bad(place),
+        None => Ok(()),
+    }
+}
