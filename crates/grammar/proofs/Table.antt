@@ -3,11 +3,9 @@ use Prim.Native.Nat.{ℕ, _+_, _*_}
 use mathlib.Core.Path.{_≡_, refl}
 use mathlib.Core.List.{List, [], _∷_, _++_, map}
 use lib.ListN.{length, take, replicate}
-use Rattle.grammar.specs.Words.{
-  Operator, EOF, Identifier, SLParen, SRparen, SSemiColon, SComma, SExcl, SEq, SLBrace, SRBrace, SImpl, SDot,
-  KIf, KElse, KWhile, KConst, KVar, KTry, KCatch, KFinally, KForEach, KAssert,
-  tok, step, is, next-is, class, code, by-code, orders, infixes, order, infix-of, operates, goes-on, codes, valid
-}
+use Rattle.grammar.specs.Words.{Operator, EOF, Identifier, SLParen, SRparen, SSemiColon, SComma, SExcl, SEq, SLBrace, SRBrace, SImpl, SDot, KIf}
+use Rattle.grammar.specs.Words.{KElse, KWhile, KConst, KVar, KTry, KCatch, KFinally, KForEach, KAssert, tok, step, is, next-is, class, code}
+use Rattle.grammar.specs.Words.{by-code, orders, infixes, order, infix-of, operates, goes-on, codes, valid}
 use Rattle.grammar.specs.Tree.{row, lay, lays, join, flag, flagged, is-call}
 use Rattle.grammar.specs.Parsed.{_>>=_, _>>_, need, build, choose, match, turns}
 use Rattle.grammar.specs.Expressions as e
@@ -18,10 +16,13 @@ use Rattle.grammar.specs.Claims.{Entry, X, S, W, entered, Example, found
 -- Signs of the table that the definition knows by their codes alone.
 abbrev a : ℕ
 a = Identifier
+
 abbrev plus : ℕ
 plus = Operator * 256 + 1
+
 abbrev times : ℕ
 times = Operator * 256 + 3
+
 abbrev and : ℕ
 and = Operator * 256 + 25
 
@@ -43,15 +44,15 @@ table =
     ∷ example X (SExcl ∷ a ∷ and ∷ a ∷ EOF ∷ []) 9 (accepts 4 3) (row 2 0 1 0 0 0 0 0 ++ row 2 0 3 0 0 0 0 0 ++ row 12 15 2 1 2 0 0 0 ++ row 13 2 0 3 0 0 0 0)
     -- a = b = c is (a = b) = c
     ∷ example X (a ∷ SEq ∷ a ∷ SEq ∷ a ∷ EOF ∷ []) 9 (accepts 5 4)
-      (row 2 0 0 0 0 0 0 0 ++ row 2 0 2 0 0 0 0 0 ++ row 12 7 1 1 2 0 0 0 ++ row 2 0 4 0 0 0 0 0 ++ row 12 7 3 3 4 0 0 0)
+    (row 2 0 0 0 0 0 0 0 ++ row 2 0 2 0 0 0 0 0 ++ row 12 7 1 1 2 0 0 0 ++ row 2 0 4 0 0 0 0 0 ++ row 12 7 3 3 4 0 0 0)
     -- a + b; * c is (a + b) * c
     ∷ example X (a ∷ plus ∷ a ∷ SSemiColon ∷ times ∷ a ∷ EOF ∷ []) 9 (accepts 5 5)
-      (row 2 0 0 0 0 0 0 0 ++ row 2 0 2 0 0 0 0 0 ++ row 12 0 1 1 2 0 0 0 ++ row 2 0 5 0 0 0 0 0 ++ row 12 2 4 3 4 0 0 0)
+    (row 2 0 0 0 0 0 0 0 ++ row 2 0 2 0 0 0 0 0 ++ row 12 0 1 1 2 0 0 0 ++ row 2 0 5 0 0 0 0 0 ++ row 12 2 4 3 4 0 0 0)
     -- the bodies of while, foreach and finally take any opener, and a call with arguments any closer, even EOF
     ∷ example W (KWhile ∷ SLParen ∷ a ∷ SRparen ∷ a ∷ SRBrace
-      ∷ KForEach ∷ a ∷ SComma ∷ a ∷ SComma ∷ a ∷ SImpl ∷ a ∷ SRBrace
-      ∷ KTry ∷ SLBrace ∷ SRBrace ∷ KCatch ∷ a ∷ SLBrace ∷ SRBrace ∷ KFinally ∷ a ∷ SRBrace
-      ∷ a ∷ SLParen ∷ a ∷ EOF ∷ []) 99 (accepts 18 28) []
+    ∷ KForEach ∷ a ∷ SComma ∷ a ∷ SComma ∷ a ∷ SImpl ∷ a ∷ SRBrace
+    ∷ KTry ∷ SLBrace ∷ SRBrace ∷ KCatch ∷ a ∷ SLBrace ∷ SRBrace ∷ KFinally ∷ a ∷ SRBrace
+    ∷ a ∷ SLParen ∷ a ∷ EOF ∷ []) 99 (accepts 18 28) []
     -- { ; a } as a block is refused 12; a later semicolon is skipped, and var x; is accepted
     ∷ example S (KWhile ∷ SLParen ∷ a ∷ SRparen ∷ SLBrace ∷ SSemiColon ∷ a ∷ SRBrace ∷ EOF ∷ []) 9 (refuses 12 5) []
     ∷ example S (KWhile ∷ SLParen ∷ a ∷ SRparen ∷ SLBrace ∷ a ∷ SSemiColon ∷ SSemiColon ∷ KVar ∷ a ∷ SSemiColon ∷ SRBrace ∷ EOF ∷ []) 9 (accepts 6 11) []

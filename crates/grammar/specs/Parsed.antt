@@ -15,7 +15,6 @@ abbrev pub Reader : Type 0 → Type 0
 Reader A = (at room : ℕ) → Parsed A
 
 infixl 20 _>>=_ _>>_
-
 -- What was read is handed on; a refusal passes upward at once.
 unfoldable pub _>>=_ : {A B : Type 0} → Parsed A → (A × ℕ × ℕ → Parsed B) → Parsed B
 refused n p >>= f = refused n p
@@ -39,50 +38,73 @@ failed n p >> x = refused n p
 -- The refusals by their numbers.
 abbrev pub BadArray : ℕ
 BadArray = 1
+
 abbrev pub TooDeep : ℕ
 TooDeep = 2
+
 abbrev pub NoRow : ℕ
 NoRow = 3
+
 abbrev pub BadStart : ℕ
 BadStart = 4
+
 abbrev pub InvalidSyntax : ℕ
 InvalidSyntax = 10
+
 abbrev pub InvalidToken : ℕ
 InvalidToken = 11
+
 abbrev pub InvalidSymbol : ℕ
 InvalidSymbol = 12
+
 abbrev pub NotImplemented : ℕ
 NotImplemented = 13
+
 abbrev pub InvalidIdentifier : ℕ
 InvalidIdentifier = 14
+
 abbrev pub AssertWithoutAction : ℕ
 AssertWithoutAction = 15
+
 abbrev pub AssertWithoutComma : ℕ
 AssertWithoutComma = 16
+
 abbrev pub FuncWithoutName : ℕ
 FuncWithoutName = 17
+
 abbrev pub IfWithoutBody : ℕ
 IfWithoutBody = 18
+
 abbrev pub ConstWithoutValue : ℕ
 ConstWithoutValue = 19
+
 abbrev pub ExpectedEq : ℕ
 ExpectedEq = 20
+
 abbrev pub ExpectedColon : ℕ
 ExpectedColon = 21
+
 abbrev pub NoParameters : ℕ
 NoParameters = 22
+
 abbrev pub ExpectedArrow : ℕ
 ExpectedArrow = 23
+
 abbrev pub HashNotTerminated : ℕ
 HashNotTerminated = 24
+
 abbrev pub ArrayNotTerminated : ℕ
 ArrayNotTerminated = 25
+
 abbrev pub NotCallable : ℕ
 NotCallable = 26
+
 abbrev pub TryWithoutCatch : ℕ
 TryWithoutCatch = 27
+
 abbrev pub BreakWithoutSemicolon : ℕ
 BreakWithoutSemicolon = 28
+
 abbrev pub ContinueWithoutSemicolon : ℕ
 ContinueWithoutSemicolon = 29
 
@@ -101,7 +123,6 @@ pub data Arm (A : Type 0) : Type 0 where
   _⇒_ : ℕ → Reader A → Arm A
 
 infix 70 _⇒_
-
 -- The first arm that has the word, or else the last.
 unfoldable pub match : {A : Type 0} → ℕ → List (Arm A) → Reader A → Reader A
 match w [] other at room = other at room

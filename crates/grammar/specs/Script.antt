@@ -36,25 +36,25 @@ array-good ts = both (need (ltb 0 (length ts) && leb (length ts) longest) BadArr
 -- One expression from a start place.
 unfoldable pub one-expression : List ℕ → (start room : ℕ) → Parsed Trees
 one-expression ts start room = do
-    array-good ts
-    need (ltb start (length ts)) BadStart 0
-    (t, at, room) ← expression ts nesting Zero start room
-    read (t ▸ nil) at room
+  array-good ts
+  need (ltb start (length ts)) BadStart 0
+  (t, at, room) ← expression ts nesting Zero start room
+  read (t ▸ nil) at room
 
 -- One statement from a start place.
 unfoldable pub one-statement : List ℕ → (start room : ℕ) → Parsed Trees
 one-statement ts start room = do
-    array-good ts
-    need (ltb start (length ts)) BadStart 0
-    statement ts nesting start room
+  array-good ts
+  need (ltb start (length ts)) BadStart 0
+  statement ts nesting start room
 
 -- A whole script: statements up to EOF, in a block at place 0.
 unfoldable pub whole-script : List ℕ → (room : ℕ) → Parsed Trees
 whole-script ts room = do
-    array-good ts
-    (list, at, room) ← statements ts (expression ts nesting) (statement ts nesting) EOF turns nil 0 room
-    (t, at, room) ← build (block 0 list) at room
-    read (t ▸ nil) at room
+  array-good ts
+  (list, at, room) ← statements ts (expression ts nesting) (statement ts nesting) EOF turns nil 0 room
+  (t, at, room) ← build (block 0 list) at room
+  read (t ▸ nil) at room
 
 -- The rows of a pool of so many words: eight words a row, and no more than 65,535 rows.
 unfoldable pub rows : ℕ → ℕ

@@ -5,7 +5,6 @@ use mathlib.Core.List.{List, [], _∷_, _++_}
 use lib.Dec.{eqb}
 
 infixr 50 _▸_
-
 mutual
   -- A tree: an infix row with its two sides, or a row of any other kind with its mark, its place and its four slots.
   pub data Tree : Type 0 where
@@ -71,8 +70,10 @@ flagged f (node k m p a b c d) = node k (flag f m) p a b c d
 -- The flags of a call started on a thread, of one not waited for, and of a row in brackets.
 abbrev pub Thread : ℕ
 Thread = 1
+
 abbrev pub Async : ℕ
 Async = 2
+
 abbrev pub Grouped : ℕ
 Grouped = 256
 
@@ -88,71 +89,101 @@ leaf k m p = node k m p nil nil nil nil
 -- The kinds of expressions: literals and names, with their place (and a bool's mark).
 abbrev pub none : ℕ → Tree
 none p = leaf 1 0 p
+
 abbrev pub identifier : ℕ → Tree
 identifier p = leaf 2 0 p
+
 abbrev pub int : ℕ → Tree
 int p = leaf 3 0 p
+
 abbrev pub float : ℕ → Tree
 float p = leaf 4 0 p
+
 abbrev pub char : ℕ → Tree
 char p = leaf 5 0 p
+
 abbrev pub string : ℕ → Tree
 string p = leaf 6 0 p
+
 abbrev pub bool : ℕ → ℕ → Tree
 bool m p = leaf 7 m p
+
 abbrev pub name : ℕ → Tree
 name p = leaf 18 0 p
 
 -- The kinds of expressions: those with children (12, infix, is a constructor above).
 abbrev pub array : ℕ → Trees → Tree
 array p values = node 8 0 p values nil nil nil
+
 abbrev pub hash : ℕ → Trees → Tree
 hash p pairs = node 9 0 p pairs nil nil nil
+
 abbrev pub index : ℕ → Tree → Tree → Tree
 index p left i = node 10 0 p (left ▸ nil) (i ▸ nil) nil nil
+
 abbrev pub call : ℕ → Tree → Trees → Tree
 call p function arguments = node 11 0 p (function ▸ nil) arguments nil nil
+
 abbrev pub prefix : ℕ → ℕ → Tree → Tree
 prefix m p t = node 13 m p (t ▸ nil) nil nil nil
+
 abbrev pub suffix : ℕ → ℕ → Tree → Tree
 suffix m p t = node 14 m p (t ▸ nil) nil nil nil
+
 abbrev pub lambda : ℕ → Trees → Tree → Tree
 lambda p parameters body = node 15 0 p parameters (body ▸ nil) nil nil
+
 abbrev pub shell : ℕ → ℕ → Tree → Tree
 shell raw p t = node 16 raw p (t ▸ nil) nil nil nil
+
 abbrev pub attribute : ℕ → Tree → Trees → Tree
 attribute p parent names = node 17 0 p (parent ▸ nil) names nil nil
+
 abbrev pub pair : ℕ → Tree → Tree → Tree
 pair p key value = node 19 0 p (key ▸ nil) (value ▸ nil) nil nil
 
 -- The kinds of statements.
 abbrev pub break : ℕ → Tree
 break p = leaf 32 0 p
+
 abbrev pub continue : ℕ → Tree
 continue p = leaf 33 0 p
+
 abbrev pub var : ℕ → Trees → Tree
 var p value = node 34 0 p value nil nil nil
+
 abbrev pub const : ℕ → Trees → Tree
 const p value = node 35 0 p value nil nil nil
+
 abbrev pub return : ℕ → Trees → Tree
 return p value = node 36 0 p value nil nil nil
+
 abbrev pub throw : ℕ → Tree → Tree
 throw p t = node 37 0 p (t ▸ nil) nil nil nil
+
 abbrev pub expression-statement : ℕ → Tree → Tree
 expression-statement p t = node 38 0 p (t ▸ nil) nil nil nil
+
 abbrev pub try : ℕ → Tree → Tree → Tree → Trees → Tree
 try p block exception catch final = node 39 0 p (block ▸ nil) (exception ▸ nil) (catch ▸ nil) final
+
 abbrev pub function : ℕ → Trees → Tree → Tree
 function p parameters body = node 40 0 p parameters (body ▸ nil) nil nil
+
 abbrev pub for : ℕ → Tree → Tree → Tree → Tree
 for p target iter block = node 41 0 p (target ▸ nil) (iter ▸ nil) (block ▸ nil) nil
+
 abbrev pub while : ℕ → Tree → Tree → Tree
 while p target block = node 42 0 p (target ▸ nil) (block ▸ nil) nil nil
+
 abbrev pub assert : ℕ → Tree → Tree → Tree
 assert p target fail = node 43 0 p (target ▸ nil) (fail ▸ nil) nil nil
+
 abbrev pub if : ℕ → Tree → Tree → Trees → Tree
 if p condition main alternate = node 44 0 p (condition ▸ nil) (main ▸ nil) alternate nil
+
 abbrev pub foreach : ℕ → Tree → Tree → Tree → Tree → Tree
 foreach p iter i element block = node 45 0 p (iter ▸ nil) (i ▸ nil) (element ▸ nil) (block ▸ nil)
+
 abbrev pub block : ℕ → Trees → Tree
 block p statements = node 46 0 p statements nil nil nil

@@ -16,100 +16,144 @@ Keyword = 9
 -- The words of the classes that the readers ask for: the class times 256.
 abbrev pub Empty : ℕ
 Empty = 1 * 256
+
 abbrev pub EOF : ℕ
 EOF = 2 * 256
+
 abbrev pub Integer : ℕ
 Integer = 3 * 256
+
 abbrev pub Str : ℕ
 Str = 4 * 256
+
 abbrev pub Float : ℕ
 Float = 5 * 256
+
 abbrev pub Char : ℕ
 Char = 6 * 256
+
 abbrev pub Identifier : ℕ
 Identifier = 7 * 256
 
 -- The words of the operators that the readers ask for: the class times 256 and the original's code. The others stand in the tables below.
 abbrev pub SLParen : ℕ
 SLParen = Operator * 256 + 5
+
 abbrev pub SRparen : ℕ
 SRparen = Operator * 256 + 6
+
 abbrev pub SSemiColon : ℕ
 SSemiColon = Operator * 256 + 11
+
 abbrev pub SComma : ℕ
 SComma = Operator * 256 + 12
+
 abbrev pub SExcl : ℕ
 SExcl = Operator * 256 + 14
+
 abbrev pub SEq : ℕ
 SEq = Operator * 256 + 15
+
 abbrev pub SLBrace : ℕ
 SLBrace = Operator * 256 + 18
+
 abbrev pub SRBrace : ℕ
 SRBrace = Operator * 256 + 19
+
 abbrev pub SNeg : ℕ
 SNeg = Operator * 256 + 24
+
 abbrev pub SIncr : ℕ
 SIncr = Operator * 256 + 29
+
 abbrev pub SDecr : ℕ
 SDecr = Operator * 256 + 30
+
 abbrev pub SLBox : ℕ
 SLBox = Operator * 256 + 34
+
 abbrev pub SRBox : ℕ
 SRBox = Operator * 256 + 35
+
 abbrev pub SImpl : ℕ
 SImpl = Operator * 256 + 36
+
 abbrev pub SColon : ℕ
 SColon = Operator * 256 + 37
+
 abbrev pub SDot : ℕ
 SDot = Operator * 256 + 38
+
 abbrev pub SDollar : ℕ
 SDollar = Operator * 256 + 40
 
 -- The words of the keywords that the readers ask for.
 abbrev pub KIf : ℕ
 KIf = Keyword * 256 + 1
+
 abbrev pub KElse : ℕ
 KElse = Keyword * 256 + 2
+
 abbrev pub KWhile : ℕ
 KWhile = Keyword * 256 + 3
+
 abbrev pub KFor : ℕ
 KFor = Keyword * 256 + 4
+
 abbrev pub KBreak : ℕ
 KBreak = Keyword * 256 + 5
+
 abbrev pub KContinue : ℕ
 KContinue = Keyword * 256 + 6
+
 abbrev pub KConst : ℕ
 KConst = Keyword * 256 + 7
+
 abbrev pub KVar : ℕ
 KVar = Keyword * 256 + 8
+
 abbrev pub KNone : ℕ
 KNone = Keyword * 256 + 9
+
 abbrev pub KFunc : ℕ
 KFunc = Keyword * 256 + 10
+
 abbrev pub KReturn : ℕ
 KReturn = Keyword * 256 + 11
+
 abbrev pub KTry : ℕ
 KTry = Keyword * 256 + 12
+
 abbrev pub KCatch : ℕ
 KCatch = Keyword * 256 + 13
+
 abbrev pub KFinally : ℕ
 KFinally = Keyword * 256 + 14
+
 abbrev pub KThrow : ℕ
 KThrow = Keyword * 256 + 16
+
 abbrev pub KTrue : ℕ
 KTrue = Keyword * 256 + 18
+
 abbrev pub KFalse : ℕ
 KFalse = Keyword * 256 + 19
+
 abbrev pub KForEach : ℕ
 KForEach = Keyword * 256 + 20
+
 abbrev pub KIn : ℕ
 KIn = Keyword * 256 + 21
+
 abbrev pub KLambda : ℕ
 KLambda = Keyword * 256 + 24
+
 abbrev pub KAssert : ℕ
 KAssert = Keyword * 256 + 25
+
 abbrev pub KThread : ℕ
 KThread = Keyword * 256 + 26
+
 abbrev pub KAsync : ℕ
 KAsync = Keyword * 256 + 27
 
