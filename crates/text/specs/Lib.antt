@@ -1,0 +1,3 @@
+-- The definitions that the contracts of `text` cite.
+pub mod Fold
+pub mod Entries
