@@ -19,7 +19,7 @@ impl Parser {
 fn main() {
     println!("cargo:rerun-if-changed=build.rs");
     println!("cargo:rerun-if-env-changed=BOSON_SRC");
-    let given = env::var("BOSON_SRC").expect("BOSON_SRC must name the folder that holds boson/src/parser");
+    let given = env::var("BOSON_SRC").expect("BOSON_SRC names the folder with boson/src/parser");
     let from = Path::new(&given).join("boson/src/parser");
     let out = PathBuf::from(env::var("OUT_DIR").expect("cargo sets OUT_DIR"));
     let to = out.join("parser");
@@ -27,15 +27,16 @@ fn main() {
     for name in FILES {
         copy(&from.join(name), &to.join(name));
     }
-    let module = format!("#[allow(warnings)]\n#[path = {:?}]\npub mod parser;\n", to.join("mod.rs"));
+    let module =
+        format!("#[allow(warnings)]\n#[path = {:?}]\npub mod parser;\n", to.join("mod.rs"));
     fs::write(out.join("original.rs"), module).expect("the build folder can be written");
 }
 
 /// Copies one file; the module's root gets the accessors.
 fn copy(from: &Path, to: &Path) {
     println!("cargo:rerun-if-changed={}", from.display());
-    let mut text = fs::read_to_string(from)
-        .unwrap_or_else(|error| panic!("{}: {}", from.display(), error));
+    let mut text =
+        fs::read_to_string(from).unwrap_or_else(|error| panic!("{}: {}", from.display(), error));
     if from.ends_with("mod.rs") {
         text.push_str(ACCESSORS);
     }

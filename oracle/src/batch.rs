@@ -1,5 +1,5 @@
 //! The streams that programs in other languages share with the oracle: cases and answers.
-use crate::model::{self, Entry, MOST_ROWS, ROW};
+use crate::model::{self, Entry, Row, MOST_ROWS, ROW};
 use std::io::{self, Read, Write};
 
 /// One question: which entry, from where, with how large a pool, over which words.
@@ -30,6 +30,22 @@ impl Case {
         let clean = pool[used..].iter().all(|&word| word == 0) as u32;
         pool.truncate(used);
         Answer { words, clean, rows: pool }
+    }
+}
+
+impl Answer {
+    /// The root's reference; 0 after a refusal.
+    pub fn root(&self) -> u32 {
+        if self.words[0] == 0 {
+            self.words[1]
+        } else {
+            0
+        }
+    }
+
+    /// The used rows, each on its own.
+    pub fn row_arrays(&self) -> Vec<Row> {
+        self.rows.chunks(ROW).map(|row| row.try_into().expect("a row has eight words")).collect()
     }
 }
 

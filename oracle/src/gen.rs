@@ -70,9 +70,12 @@ fn shorts() -> Box<dyn Iterator<Item = Case>> {
         let all = all.clone();
         (0..all.len().pow(length as u32)).map(move |index| numbered(&all, length, index))
     });
-    Box::new(arrays.flat_map(|tokens| {
-        ENTRIES.map(|entry| Case { entry, start: 0, pool: enough(&tokens), tokens: tokens.clone() })
-    }))
+    Box::new(arrays.flat_map(|tokens| by_each_entry(&tokens)))
+}
+
+/// An array from its first token on, with plenty of rows.
+fn by_each_entry(tokens: &[u16]) -> [Case; 3] {
+    ENTRIES.map(|entry| Case { entry, start: 0, pool: enough(tokens), tokens: tokens.to_vec() })
 }
 
 /// The array of `length` words whose digits spell `index`, and EOF.
@@ -87,7 +90,7 @@ fn numbered(all: &[u16], length: usize, index: usize) -> Vec<u16> {
 }
 
 /// Pool words that never run out: no token takes more than two rows, and a script one more.
-fn enough(tokens: &[u16]) -> usize {
+pub fn enough(tokens: &[u16]) -> usize {
     (2 * tokens.len() + 1) * ROW
 }
 
@@ -104,15 +107,12 @@ fn random(kind: Kind, seed: u64) -> Box<dyn Iterator<Item = Case>> {
 
 /// The chains that open the most expressions, for each entry.
 fn ladders() -> Vec<Case> {
-    let mut cases = vec![];
-    for times in 1..=4 {
+    let ladder = |times| {
         let mut tokens = chains::ladder(times);
         tokens.push(EOF);
-        cases.extend(ENTRIES.map(|entry| {
-            Case { entry, start: 0, pool: enough(&tokens), tokens: tokens.clone() }
-        }));
-    }
-    cases
+        by_each_entry(&tokens)
+    };
+    (1..=4).flat_map(ladder).collect()
 }
 
 struct Maker {
@@ -217,6 +217,21 @@ mod tests {
             let wish = Wish { kind, seed: 7, count: Some(50), scarce: true };
             let words = || cases(&wish).map(|case| case.tokens).collect::<Vec<_>>();
             assert_eq!(words(), words());
+        }
+    }
+
+    #[test]
+    fn a_case_needs_just_the_rows_it_uses() {
+        let wish = Wish { kind: Kind::Valid, seed: 5, count: Some(100), scarce: false };
+        for case in cases(&wish) {
+            let plenty = case.answer();
+            if plenty.words[0] != 0 || plenty.words[2] == 0 {
+                continue;
+            }
+            let with = |rows| Case { pool: rows * ROW, ..case.clone() }.answer();
+            let used = plenty.words[2] as usize;
+            assert_eq!(with(used), plenty);
+            assert!((0..used).all(|rows| with(rows).words[0] == 3));
         }
     }
 

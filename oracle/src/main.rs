@@ -1,11 +1,22 @@
 //! The oracle's commands.
 mod batch;
 mod compare;
+mod examples;
 mod gen;
+mod groups;
 mod kinds;
+mod lexer;
 mod model;
+mod original;
+mod places;
+mod selfcheck;
+mod show;
 mod text;
+mod tree;
 mod words;
+
+// The original parser's text, copied at build time.
+include!(concat!(env!("OUT_DIR"), "/original.rs"));
 
 use std::fs::File;
 use std::io::{self, BufReader, BufWriter, Write};
@@ -15,11 +26,14 @@ const USAGE: &str = "commands:
   gen KIND [--seed N] [--count N] [--rows plenty|scarce]   a batch of cases on standard output
       (kinds: short valid damaged noise chains nesting limits mixed)
   answer                     the model's answers to the batch on standard input
-  compare ANSWERS            compares a file of answers with the model's, batch on standard input";
+  compare ANSWERS            compares a file of answers with the model's, batch on standard input
+  selfcheck [--seed N]       compares model and original on every kind of case
+  show X|S|W [--start N] [--rows N] TEXT   one case by model and original, for people
+      (X one expression, S one statement, W the whole script; TEXT as tools/tokens has it)";
 
 fn main() -> ExitCode {
     let arguments: Vec<String> = std::env::args().skip(1).collect();
-    match run(&arguments) {
+    match on_large_stack(move || run(&arguments)) {
         Ok(true) => ExitCode::SUCCESS,
         Ok(false) => ExitCode::FAILURE,
         Err(error) => {
@@ -33,6 +47,15 @@ fn wrong(what: String) -> io::Error {
     io::Error::new(io::ErrorKind::InvalidInput, what)
 }
 
+/// The original and its trees recurse as deep as they are long.
+const STACK: usize = 1 << 29;
+
+/// Runs `work` on a thread of its own.
+fn on_large_stack<T: Send + 'static>(work: impl FnOnce() -> T + Send + 'static) -> T {
+    let thread = std::thread::Builder::new().stack_size(STACK).spawn(work);
+    thread.expect("a thread can be started").join().expect("its work doesn't panic")
+}
+
 /// Runs a command; false if it found a difference.
 fn run(arguments: &[String]) -> io::Result<bool> {
     let command = arguments.first().map_or("", String::as_str);
@@ -40,6 +63,11 @@ fn run(arguments: &[String]) -> io::Result<bool> {
     match (command, rest) {
         ("gen", rest) if !rest.is_empty() => generate(&wish(rest)?),
         ("answer", []) => answer(),
+        ("selfcheck", []) => selfcheck::run(1),
+        ("selfcheck", [option, seed]) if option == "--seed" => {
+            selfcheck::run(number(option, seed)?)
+        }
+        ("show", rest) if !rest.is_empty() => Ok(show::show(&shown(rest)?)),
         ("compare", [answers]) => {
             let mut answers = BufReader::new(File::open(answers)?);
             Ok(compare::compare(&mut io::stdin().lock(), &mut answers)? == 0)
@@ -69,6 +97,24 @@ fn wish(arguments: &[String]) -> io::Result<gen::Wish> {
         }
     }
     Ok(wish)
+}
+
+/// The case that the arguments of `show` describe.
+fn shown(arguments: &[String]) -> io::Result<batch::Case> {
+    let entry = examples::entry(&arguments[0]).ok_or_else(|| wrong(USAGE.into()))?;
+    let mut rest = &arguments[1..];
+    let (mut start, mut rows) = (0, None);
+    while let [option, value, others @ ..] = rest {
+        match option.as_str() {
+            "--start" => start = number(option, value)?,
+            "--rows" => rows = Some(number(option, value)?),
+            _ => break,
+        }
+        rest = others;
+    }
+    let tokens = text::to_words(&rest.join(" "))?.concat();
+    let pool = rows.map_or(gen::enough(&tokens), |rows: usize| rows * model::ROW);
+    Ok(batch::Case { entry, start, pool, tokens })
 }
 
 fn generate(wish: &gen::Wish) -> io::Result<bool> {

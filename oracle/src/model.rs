@@ -10,6 +10,7 @@ use reader::{Read, Reader, Refusal};
 /// Words of a row, and the most rows a pool has.
 pub const ROW: usize = 8;
 pub const MOST_ROWS: usize = 65535;
+pub type Row = [u32; ROW];
 
 /// The three entries that read tokens.
 #[derive(Clone, Copy, Debug, PartialEq)]

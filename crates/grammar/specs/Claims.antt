@@ -1,11 +1,18 @@
 -- What is claimed of the definition, each claim as a named type.
-use Prim.Native.Nat.{ℕ, _*_}
+use Prim.Native.Nat.{ℕ, suc, _+_, _-_, _*_, _%_, _≤_, _<_}
 use mathlib.Core.Path.{_≡_}
-use mathlib.Core.List.{List, _++_, map}
-use lib.ListN.{length, take}
-use Rattle.grammar.specs.Tree.{Trees}
-use Rattle.grammar.specs.Parsed.{Parsed}
-use Rattle.grammar.specs.Script.{one-expression, one-statement, whole-script, answer, pool}
+use mathlib.Core.Bool.{false, cond}
+use mathlib.Core.List.{List, [], _∷_, _++_, map}
+use mathlib.Core.Logic.{_⊎_}
+use lib.Dec.{eqb, ltb}
+use lib.ListN.{length, getD, take, replicate}
+use Rattle.grammar.specs.Words.{Integer, Str, Float, Char, Identifier, SSemiColon, SDot, KNone, KTrue, KFalse, tok, step, Zero, order, infix-of}
+use Rattle.grammar.specs.Words.{goes-on}
+use Rattle.grammar.specs.Tree.{Tree, infixed, node, Trees, nil, _▸_, size, sizes, lay, identifier, int, float, char, string, bool, none}
+use Rattle.grammar.specs.Parsed.{Parsed, refused, read, met, Unreached}
+use Rattle.grammar.specs.Expressions.{expression}
+use Rattle.grammar.specs.Statements.{statement}
+use Rattle.grammar.specs.Script.{nesting, array-good, one-expression, one-statement, whole-script, rows, answer, pool}
 
 -- The three entries, from place 0.
 pub data Entry : Type 0 where
@@ -38,3 +45,237 @@ expected e = e .answered ++ e .laid
 -- Examples that the definition agrees with.
 abbrev pub Agrees : List Example → Type 0
 Agrees table = map found table ≡ map expected table
+
+-- The order of each infix operator by its mark: Plus, Minus; Mul, Div, Mod; And; Or; Equal; EEqual, NotEqual; the four comparisons; LogicalOr;
+-- LogicalAnd; PlusEq, MinusEq, MulEq, DivEq, AndEq, OrEq, ModEq.
+unfoldable pub mark-orders : List ℕ
+mark-orders = 8 ∷ 8 ∷ 9 ∷ 9 ∷ 9 ∷ 5 ∷ 4 ∷ 1 ∷ 6 ∷ 6 ∷ 7 ∷ 7 ∷ 7 ∷ 7 ∷ 2 ∷ 3 ∷ 1 ∷ 1 ∷ 1 ∷ 1 ∷ 1 ∷ 1 ∷ 1 ∷ []
+
+-- An infix operator has one of these 23 marks, and the order of its mark.
+abbrev pub MarksOrder : Type 0
+MarksOrder = (w mark : ℕ) → infix-of w ≡ suc mark → (mark < 23) × (order w ≡ getD mark-orders mark 0)
+
+-- An infix row that is in no brackets has the order `n` or a higher one: the order of the operator at its place.
+abbrev pub Binds : List ℕ → ℕ → Tree → Type 0
+Binds ts n (infixed m p l r) = m < 256 → n ≤ order (tok ts p)
+Binds ts n (node k m p a b c d) = Unit {0}
+
+abbrev mutual
+  -- What holds of a tree and of every tree in it.
+  pub Every : (Tree → Type 0) → Tree → Type 0
+  Every Q (infixed m p l r) = Q (infixed m p l r) × Every Q l × Every Q r
+  Every Q (node k m p a b c d) = Q (node k m p a b c d) × EveryOf Q a × EveryOf Q b × EveryOf Q c × EveryOf Q d
+
+  -- What holds of the trees of a slot and of every tree in them.
+  pub EveryOf : (Tree → Type 0) → Trees → Type 0
+  EveryOf Q nil = Unit {0}
+  EveryOf Q (t ▸ ts) = Every Q t × EveryOf Q ts
+
+-- The rule for an infix row: it has the mark of the operator at its place; its left side binds no looser, unless a semicolon stands just before
+-- the operator; its right side binds strictly tighter.
+pub record Ruled (ts : List ℕ) (mark place : ℕ) (left right : Tree) : Type 0 where
+  pub sign : infix-of (tok ts place) ≡ suc (mark % 256)
+  pub looser : Binds ts (order (tok ts place)) left ⊎ (tok ts (place - 1) ≡ SSemiColon)
+  pub tighter : Binds ts (suc (order (tok ts place))) right
+
+-- A tree whose root keeps the rule, if it is an infix row; no other row has the kind of one.
+abbrev pub KeepsBut : List ℕ → Tree → Type 0
+KeepsBut ts (infixed m p l r) = Ruled ts m p l r
+KeepsBut ts (node k m p a b c d) = eqb k 12 ≡ false
+
+-- What holds of every accepted answer of the three entries, from any start place and with any number of rows; a whole script starts at 0.
+abbrev pub OfEntries : ((ts : List ℕ) (start room : ℕ) (us : Trees) (at left : ℕ) → Type 0) → Type 0
+OfEntries P =
+    (ts : List ℕ) (start room : ℕ) (us : Trees) (at left : ℕ)
+    → (one-expression ts start room ≡ read us at left → P ts start room us at left)
+    × (one-statement ts start room ≡ read us at left → P ts start room us at left)
+    × (whole-script ts room ≡ read us at left → P ts 0 room us at left)
+
+-- Every infix row of an accepted tree keeps the rule.
+abbrev pub KeepsRule : Type 0
+KeepsRule = OfEntries (λ ts start room us at left. EveryOf (KeepsBut ts) us)
+
+-- The cursor never goes back.
+abbrev pub GoesForward : Type 0
+GoesForward = OfEntries (λ ts start room us at left. start ≤ at)
+
+-- The rows used and the rows left are the rows given.
+abbrev pub SpendsRows : Type 0
+SpendsRows = OfEntries (λ ts start room us at left. sizes us + left ≡ room)
+
+-- The cursor stays in the array.
+abbrev pub StaysInside : Type 0
+StaysInside = OfEntries (λ ts start room us at left. at < length ts)
+
+-- No loop runs out of turns: no entry answers with the refusal that this would give.
+abbrev pub NeverUnreached : Type 0
+NeverUnreached =
+    (ts : List ℕ) (start room place : ℕ)
+    → (¬ (one-expression ts start room ≡ refused Unreached place))
+    × (¬ (one-statement ts start room ≡ refused Unreached place))
+    × (¬ (whole-script ts room ≡ refused Unreached place))
+
+-- An answer whose first word is 0 is an acceptance.
+abbrev pub Accepts : Parsed Trees → Type 0
+Accepts p = getD (answer p) 0 1 ≡ 0
+
+-- What was read, where an answer is an acceptance.
+pub record Accepted (p : Parsed Trees) : Type 0 where
+  pub trees : Trees
+  pub at : ℕ
+  pub left : ℕ
+  pub accepted : p ≡ read trees at left
+
+-- No refusal of an entry has the number 0.
+abbrev pub ZeroAccepts : Type 0
+ZeroAccepts =
+    (ts : List ℕ) (start room : ℕ)
+    → (Accepts (one-expression ts start room) → Accepted (one-expression ts start room))
+    × (Accepts (one-statement ts start room) → Accepted (one-statement ts start room))
+    × (Accepts (whole-script ts room) → Accepted (whole-script ts room))
+
+-- A word of the row with a reference: 0 its kind, 1 its mark, 2 its place, 3 to 6 its children, 7 its next.
+abbrev pub word-of : List ℕ → (reference word : ℕ) → ℕ
+word-of pool r k = getD pool (8 * (r - 1) + k) 0
+
+-- An infix row of a pool that is in no brackets has the order `n` or a higher one.
+abbrev pub RowBinds : (ts pool : List ℕ) (n reference : ℕ) → Type 0
+RowBinds ts pool n r = word-of pool r 0 ≡ 12 → word-of pool r 1 < 256 → n ≤ order (tok ts (word-of pool r 2))
+
+-- The rule for an infix row of a pool, by its words and those of its two sides.
+pub record RowRuled (ts pool : List ℕ) (reference : ℕ) : Type 0 where
+  pub sign : infix-of (tok ts (word-of pool reference 2)) ≡ suc (word-of pool reference 1 % 256)
+  pub looser : RowBinds ts pool (order (tok ts (word-of pool reference 2))) (word-of pool reference 3) ⊎ (tok ts (word-of pool reference 2 - 1) ≡ SSemiColon)
+  pub tighter : RowBinds ts pool (suc (order (tok ts (word-of pool reference 2)))) (word-of pool reference 4)
+
+-- Every infix row among a pool's words keeps the rule.
+abbrev pub RowsRuled : (ts pool : List ℕ) → Type 0
+RowsRuled ts pool = (reference : ℕ) → 1 ≤ reference → word-of pool reference 0 ≡ 12 → RowRuled ts pool reference
+
+-- Whatever an entry answers, the words of the pool keep the rule.
+abbrev pub PoolKeepsRule : Type 0
+PoolKeepsRule =
+    (ts : List ℕ) (start room words : ℕ)
+    → RowsRuled ts (pool words (one-expression ts start room))
+    × RowsRuled ts (pool words (one-statement ts start room))
+    × RowsRuled ts (pool words (whole-script ts room))
+
+-- More nesting and more rows never change what the reader of expressions, or that of statements, accepts.
+abbrev pub MoreNesting : Type 0
+MoreNesting =
+    (ts : List ℕ) (d d′ more at room c left : ℕ) → d ≤ d′
+    → ((pre : ℕ) (t : Tree) → expression ts d pre at room ≡ read t c left → expression ts d′ pre at (room + more) ≡ read t c (left + more))
+    × ((us : Trees) → statement ts d at room ≡ read us c left → statement ts d′ at (room + more) ≡ read us c (left + more))
+
+-- More rows never change what an entry accepts.
+abbrev pub MoreRows : Type 0
+MoreRows =
+    (ts : List ℕ) (start room more : ℕ) (us : Trees) (at left : ℕ)
+    → (one-expression ts start room ≡ read us at left → one-expression ts start (room + more) ≡ read us at (left + more))
+    × (one-statement ts start room ≡ read us at left → one-statement ts start (room + more) ≡ read us at (left + more))
+    × (whole-script ts room ≡ read us at left → whole-script ts (room + more) ≡ read us at (left + more))
+
+-- In a larger pool an entry that accepts gives the same answer and the same words, and zeros behind them.
+abbrev pub InLargerPool : ((room : ℕ) → Parsed Trees) → Type 0
+InLargerPool entry =
+    (words more : ℕ) → Accepts (entry (rows words))
+    → (answer (entry (rows (words + more))) ≡ answer (entry (rows words)))
+    × (pool (words + more) (entry (rows (words + more))) ≡ pool words (entry (rows words)) ++ replicate more 0)
+
+-- The same of all three entries.
+abbrev pub MoreWords : Type 0
+MoreWords =
+    (ts : List ℕ) (start : ℕ)
+    → InLargerPool (λ room. one-expression ts start room) × InLargerPool (λ room. one-statement ts start room) × InLargerPool (λ room. whole-script ts room)
+
+-- The parts of a chain: an operand with its tree, or an infix operator with its mark and place.
+pub data Part : Type 0 where
+  operand : Tree → Part
+  sign : (mark place : ℕ) → Part
+
+-- A tree read left to right: an infix row in no brackets gives its left side, its operator and its right side, any other tree is an operand.
+unfoldable pub reading : Tree → List Part
+reading (infixed m p l r) = cond (ltb m 256) (reading l ++ (sign m p ∷ reading r)) (operand (infixed m p l r) ∷ [])
+reading (node k m p a b c d) = operand (node k m p a b c d) ∷ []
+
+-- What holds of the infix rows that join a tree's operands.
+abbrev pub Joins : ((mark place : ℕ) (left right : Tree) → Type 0) → Tree → Type 0
+Joins P (infixed m p l r) = m < 256 → P m p l r × Joins P l × Joins P r
+Joins P (node k m p a b c d) = Unit {0}
+
+-- The rule with no exception: a left side binds no looser, a right side strictly tighter.
+abbrev pub Keeps : List ℕ → (mark place : ℕ) (left right : Tree) → Type 0
+Keeps ts m p l r = Binds ts (order (tok ts p)) l × Binds ts (suc (order (tok ts p))) r
+
+-- A chain's tree, read from `start` up to `at`: what was read, left to right, is the chain; the rule is kept, and by no other tree of that reading;
+-- so many rows are used; the entry accepts with so many rows or more, and no more than `deep` expressions are open at once.
+pub record Grouping (ts : List ℕ) (deep start at used : ℕ) (parts : List Part) : Type 0 where
+  pub tree : Tree
+  pub reads : reading tree ≡ parts
+  pub kept : Joins (Keeps ts) tree
+  pub only : (t : Tree) → reading t ≡ parts → Joins (Keeps ts) t → t ≡ tree
+  pub rows-used : size tree ≡ used
+  pub accepted : (room left : ℕ) → used + left ≡ room → one-expression ts start room ≡ read (tree ▸ nil) at left
+  pub shallow : (d room left : ℕ) → deep ≤ d → used + left ≡ room → expression ts d Zero start room ≡ read tree at left
+
+-- The words of values, each with the row that it is read as.
+pub data Value : ℕ → (ℕ → Tree) → Type 0 where
+  an-identifier : Value Identifier identifier
+  an-integer : Value Integer int
+  a-float : Value Float float
+  a-char : Value Char char
+  a-string : Value Str string
+  a-true : Value KTrue (bool 1)
+  a-false : Value KFalse (bool 0)
+  a-none : Value KNone none
+
+-- n values from a place on, with infix operators between them.
+pub data Chain (ts : List ℕ) : (start n : ℕ) → List Part → Type 0 where
+  one : {s : ℕ} {row : ℕ → Tree} → Value (tok ts s) row → Chain ts s 1 (operand (row s) ∷ [])
+  more : {s n mark : ℕ} {row : ℕ → Tree} {parts : List Part} → Value (tok ts s) row → infix-of (tok ts (s + 1)) ≡ suc mark → Chain ts (s + 2) n parts
+      → Chain ts s (suc n) (operand (row s) ∷ sign mark (s + 1) ∷ parts)
+
+-- What follows a chain whose last value is at `last`: a token of order Zero that is neither a semicolon nor, behind an identifier, a dot;
+-- or one or more semicolons and then a token of order Zero that isn't one. With it, where the reader then stands.
+pub data Ended (ts : List ℕ) (last : ℕ) : (at : ℕ) → Type 0 where
+  plainly : order (tok ts (last + 1)) ≡ Zero → ¬ (tok ts (last + 1) ≡ SSemiColon) → (tok ts last ≡ Identifier → ¬ (tok ts (last + 1) ≡ SDot))
+      → Ended ts last last
+  by-semicolons : (i : ℕ) → ((j : ℕ) → j ≤ i → tok ts (last + 1 + j) ≡ SSemiColon) → order (tok ts (last + 2 + i)) ≡ Zero
+      → ¬ (tok ts (last + 2 + i) ≡ SSemiColon) → Ended ts last (last + 1)
+
+-- The grouping condition: in a valid array a chain of n values is read as the one tree that keeps the rule, in 2n - 1 rows and with no more
+-- than ten expressions open at once.
+abbrev pub GroupsChains : Type 0
+GroupsChains =
+    (ts : List ℕ) (s n at : ℕ) (parts : List Part) → array-good ts ≡ met → Chain ts s n parts → Ended ts (s + 2 * n - 2) at
+    → Grouping ts 10 s at (2 * n - 1) parts
+
+-- The highest order of an infix operator.
+abbrev pub DivMulMod : ℕ
+DivMulMod = 9
+
+-- Operands from a place on with infix operators between them, where the last ends at `e`: each is what the reader itself reads there above
+-- all infix operators, with `d` more expressions open and just the rows that it takes. None but the last ends on a semicolon.
+pub data Operands (ts : List ℕ) (d : ℕ) : (s e : ℕ) → List Part → Type 0 where
+  final : {s e : ℕ} {t : Tree} → expression ts d DivMulMod s (size t) ≡ read t e 0 → Operands ts d s e (operand t ∷ [])
+  further : {s c p e mark : ℕ} {t : Tree} {parts : List Part} → expression ts d DivMulMod s (size t) ≡ read t c 0 → ¬ (tok ts c ≡ SSemiColon)
+      → step ts c ≡ p → infix-of (tok ts p) ≡ suc mark → Operands ts d (step ts p) e parts → Operands ts d s e (operand t ∷ sign mark p ∷ parts)
+
+-- The rows that the parts of a chain take.
+unfoldable pub rows-of : List Part → ℕ
+rows-of [] = 0
+rows-of (operand t ∷ ps) = size t + rows-of ps
+rows-of (sign m p ∷ ps) = suc (rows-of ps)
+
+-- The same for chains of any operands, where the loop stops behind the last one.
+abbrev pub GroupsOperands : Type 0
+GroupsOperands =
+    (ts : List ℕ) (d s e : ℕ) (parts : List Part) → array-good ts ≡ met → Operands ts d s e parts → goes-on Zero (tok ts (step ts e)) ≡ false
+    → 9 + d ≤ nesting → Grouping ts (9 + d) s e (rows-of parts) parts
+
+-- The answer and the pool's words where such a chain is read: 0, the root's reference and the rows used, the current place; the tree's rows and zeros.
+abbrev pub AnswersChains : Type 0
+AnswersChains =
+    (ts : List ℕ) (deep s at used : ℕ) (parts : List Part) (g : Grouping ts deep s at used parts) (words : ℕ) → used ≤ rows words
+    → (answer (one-expression ts s (rows words)) ≡ 0 ∷ used ∷ used ∷ at ∷ [])
+    × (pool words (one-expression ts s (rows words)) ≡ lay (g .tree) 0 0 ++ replicate (words - 8 * used) 0)

@@ -128,7 +128,7 @@ unfoldable pub match : {A : Type 0} → ℕ → List (Arm A) → Reader A → Re
 match w [] other at room = other at room
 match w ((k ⇒ f) ∷ arms) other at room = choose (eqb w k) (λ _. f at room) (λ _. match w arms other at room)
 
--- How often a loop may turn: more often than an array has tokens, so that no loop comes to its end by this.
+-- How often a loop may turn: as often as the longest array has tokens, so that no loop comes to its end by this.
 unfoldable pub turns : ℕ
 turns = 32768
 

@@ -17,7 +17,7 @@ pub fn damage(rng: &mut Rng, words: &mut Vec<u16>, all: &[u16]) {
             words.push(word);
             continue;
         }
-        match rng.below(6) {
+        match rng.below(7) {
             0 => words.truncate(at),
             1 | 2 => {
                 words.remove(at);
@@ -27,7 +27,8 @@ pub fn damage(rng: &mut Rng, words: &mut Vec<u16>, all: &[u16]) {
                 words.swap(at, other);
             }
             4 => words[at] = word,
-            _ => words.insert(at, word),
+            5 => words.insert(at, word),
+            _ => drop(words.splice(at..at, vec![SEMICOLON; 1 + rng.below(3)])),
         }
     }
 }

@@ -1,0 +1,178 @@
+-- More nesting and more rows change nothing that is accepted: what is left of the rows is as many more.
+use Prim.Native.Nat.{ℕ, zero, suc, _+_, _≤_}
+use native.Mathlib.Nat.{suc-add}
+use mathlib.Core.Path.{_≡_, refl}
+use mathlib.Core.Bool.{Bool, true, false}
+use mathlib.Core.List.{List}
+use native.Mathlib.Omega.{arith}
+use Rattle.grammar.specs.Tree.{Tree, Trees}
+use Rattle.grammar.specs.Parsed.{Parsed, refused, read, Reader, _>>=_, _>>_, Check, met, failed, build, choose, match}
+use Rattle.grammar.specs.Expressions as e
+use Rattle.grammar.specs.Statements as s
+use Rattle.grammar.specs.Claims.{MoreNesting, MoreRows}
+use Rattle.grammar.specs.Script.{nesting, one-expression, one-statement, whole-script}
+
+-- Where x accepts, y gives the same, with k more rows left.
+abbrev Below : {A : Type 0} → ℕ → Parsed A → Parsed A → Type 0
+Below k (refused n p) y = Unit {0}
+Below k (read a at room) y = y ≡ read a at (room + k)
+
+-- The same of two readers, where the second has k more rows.
+abbrev Under : {A : Type 0} → ℕ → Reader A → Reader A → Type 0
+Under k f g = (at room : ℕ) → Below k (f at room) (g at (room + k))
+
+module _ {A : Type 0} (k : ℕ) where
+  below-refused : (n p : ℕ) (y : Parsed A) → Below k (refused n p) y
+  below-refused n p y = tt
+
+  below-read : (a : A) (at room : ℕ) → Below k (read a at room) (read a at (room + k))
+  below-read a at room = refl
+
+  below-check : (c : Check) (x y : Parsed A) → Below k x y → Below k (c >> x) (c >> y)
+  unfolding _>>_
+  below-check met x y h = h
+  below-check (failed n p) x y h = tt
+
+  below-choose : (b : Bool) (x y x′ y′ : Unit {0} → Parsed A) → Below k (x tt) (x′ tt) → Below k (y tt) (y′ tt) → Below k (choose b x y) (choose b x′ y′)
+  unfolding choose
+  below-choose true x y x′ y′ h l = h
+  below-choose false x y x′ y′ h l = l
+
+below-then : {A B : Type 0} (k : ℕ) (x y : Parsed A) (f g : A × ℕ × ℕ → Parsed B) → Below k x y
+    → ((a : A) (at room : ℕ) → Below k (f (a, at, room)) (g (a, at, room + k))) → Below k (x >>= f) (y >>= g)
+unfolding _>>=_
+below-then k (refused n p) y f g h l = tt
+below-then k (read a at room) y f g h l = rw h (l a at room)
+
+below-build : (k : ℕ) (t : Tree) → Under k (build t) (build t)
+unfolding build
+below-build k t at zero = tt
+below-build k t at (suc m) = rw (suc-add m k)
+
+ruleset parts = (below-then, below-check, below-choose, below-build, below-read, below-refused)
+
+module _ (k : ℕ) (ts : List ℕ) where
+  identifier-under : (made : ℕ → Tree) → Under k (e.get-identifier ts made) (e.get-identifier ts made)
+  unfolding e.get-identifier
+  identifier-under made at room = search parts
+
+  dots-under : (i : ℕ) (names : Trees) → Under k (e.dots ts i names) (e.dots ts i names)
+  unfolding e.dots
+  dots-under zero names at room = tt
+  dots-under (suc i) names at room = let more = dots-under i in search (parts, identifier-under, more) depth 9
+
+  dot-under : Under k (e.dot-expression ts) (e.dot-expression ts)
+  unfolding e.dot-expression
+  dot-under at room = search (parts, identifier-under, dots-under) depth 9
+
+  no-prefix-under : Under k (e.no-prefix ts) (e.no-prefix ts)
+  unfolding e.no-prefix
+  no-prefix-under at room = search parts
+
+  module _ (a b : e.Rec) (rec : (pre : ℕ) → Under k (a pre) (b pre)) where
+    entries-under : (f g : Reader Tree) → Under k f g → (i : ℕ) (list : Trees) → Under k (e.entries ts a f i list) (e.entries ts b g i list)
+    unfolding e.entries
+    entries-under f g h zero list at room = tt
+    entries-under f g h (suc i) list at room = let more = entries-under f g h i in search (parts, more) depth 9
+
+    list-under : Under k (e.list-expr ts a) (e.list-expr ts b)
+    unfolding e.list-expr
+    list-under at room = search (parts, entries-under) depth 9
+
+    pair-under : Under k (e.pair ts a) (e.pair ts b)
+    unfolding e.pair
+    pair-under at room = search parts depth 9
+
+    ruleset walk = (parts, identifier-under, dots-under, list-under, pair-under, entries-under)
+
+    prefix-part-under : Under k (e.prefix-part ts a) (e.prefix-part ts b)
+    unfolding e.prefix-part match e.lambda e.started e.array e.hash-literal e.prefix e.sub-expression e.shell e.command
+    prefix-part-under at room = search (walk, dot-under, no-prefix-under) depth 30 fits 4000
+
+    operation-under : (t : Tree) → Under k (e.operation ts a t) (e.operation ts b t)
+    unfolding e.operation match e.suffix-expression e.call e.index e.infix-expression
+    operation-under t at room = search walk depth 15
+
+    climb-under : (pre i : ℕ) (t : Tree) → Under k (e.climb ts a pre i t) (e.climb ts b pre i t)
+    unfolding e.climb
+    climb-under pre zero t at room = tt
+    climb-under pre (suc i) t at room = let more = climb-under pre i in search (parts, operation-under, more) depth 9
+
+    level-under : (pre : ℕ) → Under k (e.level ts a pre) (e.level ts b pre)
+    unfolding e.level
+    level-under pre at room = search (parts, prefix-part-under, climb-under) depth 9
+
+  expression-under : (d d′ : ℕ) → d ≤ d′ → (pre : ℕ) → Under k (e.expression ts d pre) (e.expression ts d′ pre)
+  unfolding e.expression
+  expression-under zero d′ h pre at room = tt
+  expression-under (suc d) zero h pre at room = absurd (omega arith)
+  expression-under (suc d) (suc d′) h pre at room = level-under (e.expression ts d) (e.expression ts d′) (expression-under d d′ (omega arith)) pre at room
+
+  module _ (a b : e.Rec) (rec : (pre : ℕ) → Under k (a pre) (b pre)) (f g : Reader Trees) (stmt : Under k f g) where
+    exprs-under : Under k (e.list-expr ts a) (e.list-expr ts b)
+    exprs-under = list-under a b rec
+
+    statements-under : (close i : ℕ) (list : Trees) → Under k (s.statements ts a f close i list) (s.statements ts b g close i list)
+    unfolding s.statements
+    statements-under close zero list at room = tt
+    statements-under close (suc i) list at room = let more = statements-under close i in search (parts, more) depth 9
+
+    block-under : Under k (s.block ts a f) (s.block ts b g)
+    unfolding s.block s.opened
+    block-under at room = search (parts, statements-under) depth 9
+
+    ruleset bodies = (parts, exprs-under, block-under)
+
+    else-under : Under k (s.else ts a f) (s.else ts b g)
+    unfolding s.else
+    else-under at room = search bodies depth 9
+
+    finally-under : Under k (s.finally ts a f) (s.finally ts b g)
+    unfolding s.finally
+    finally-under at room = search bodies depth 9
+
+    kept-under : Under k (s.kept ts a f) (s.kept ts b g)
+    unfolding s.kept match s.alone s.begun s.var s.const s.value s.if s.assert s.while s.return s.function s.for s.throw s.try s.foreach s.expression-statement
+    kept-under at room = search (bodies, else-under, finally-under) depth 30 fits 4000
+
+    statement-level-under : Under k (s.level ts a f) (s.level ts b g)
+    unfolding s.level
+    statement-level-under at room = search (parts, kept-under) depth 9
+
+  statement-under : (d d′ : ℕ) → d ≤ d′ → Under k (s.statement ts d) (s.statement ts d′)
+  unfolding s.statement
+  statement-under zero d′ h at room = tt
+  statement-under (suc d) zero h at room = absurd (omega arith)
+  statement-under (suc d) (suc d′) h at room =
+      let le : d ≤ d′ = omega arith in
+      statement-level-under (e.expression ts d) (e.expression ts d′) (expression-under d d′ le) (s.statement ts d) (s.statement ts d′) (statement-under d d′ le) at room
+
+  expression-entry : (start room : ℕ) → Below k (one-expression ts start room) (one-expression ts start (room + k))
+  unfolding one-expression
+  expression-entry start room = let le : nesting ≤ nesting = omega arith in let more = expression-under nesting nesting le in search (parts, more) depth 9
+
+  statement-entry : (start room : ℕ) → Below k (one-statement ts start room) (one-statement ts start (room + k))
+  unfolding one-statement
+  statement-entry start room = let le : nesting ≤ nesting = omega arith in let more = statement-under nesting nesting le in search (parts, more) depth 9
+
+  script-entry : (room : ℕ) → Below k (whole-script ts room) (whole-script ts (room + k))
+  unfolding whole-script
+  script-entry room =
+      let le : nesting ≤ nesting = omega arith in
+      let exprs = expression-under nesting nesting le in
+      let stmts = statement-under nesting nesting le in
+      let more = statements-under (e.expression ts nesting) (e.expression ts nesting) exprs (s.statement ts nesting) (s.statement ts nesting) stmts in
+      search (parts, more) depth 9
+
+pub nesting-more : MoreNesting
+nesting-more ts d d′ more at room c left h = (
+  λ pre t e. let b : Below more (read t c left) _ = rw e at (expression-under more ts d d′ h pre at room) in b,
+  λ us e. let b : Below more (read us c left) _ = rw e at (statement-under more ts d d′ h at room) in b,
+)
+
+pub rows-more : MoreRows
+rows-more ts start room more us at left = (
+  λ e. let b : Below more (read us at left) _ = rw e at (expression-entry more ts start room) in b,
+  λ e. let b : Below more (read us at left) _ = rw e at (statement-entry more ts start room) in b,
+  λ e. let b : Below more (read us at left) _ = rw e at (script-entry more ts room) in b,
+)

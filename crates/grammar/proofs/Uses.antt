@@ -1,0 +1,56 @@
+-- The theorems used, on arrays written out; and that ten open expressions are needed.
+use Prim.Native.Nat.{ℕ, zero, suc, _+_, _*_, _≤_}
+use mathlib.Core.Path.{_≡_, refl}
+use mathlib.Core.List.{List, [], _∷_}
+use native.Mathlib.Omega.{arith}
+use Rattle.grammar.specs.Words.{Operator, EOF, Identifier, SLParen, SRparen, SSemiColon, SEq, SLBox, SRBox, Zero, tok, step, is, next-is, class}
+use Rattle.grammar.specs.Words.{code, by-code, orders, infixes, order, infix-of, operates, goes-on, codes, valid}
+use Rattle.grammar.specs.Tree.{infixed, identifier, call, index, nil, _▸_, join, flag, flagged, is-call}
+use Rattle.grammar.specs.Parsed.{refused, _>>=_, _>>_, need, build, choose, match, turns, TooDeep}
+use Rattle.grammar.specs.Expressions as e
+use Rattle.grammar.specs.Script.{nesting, longest, both, words-good, array-good}
+use Rattle.grammar.specs.Claims.{operand, sign, Grouping, one, more, an-identifier, by-semicolons, final, further, rows-of}
+use Rattle.grammar.proofs.Chains.{chains}
+use Rattle.grammar.proofs.Operands.{operands}
+
+abbrev a : ℕ
+a = Identifier
+
+abbrev sym : ℕ → ℕ
+sym code = Operator * 256 + code
+
+-- a + a * a ; ;
+abbrev sum : List ℕ
+sum = a ∷ sym 1 ∷ a ∷ sym 3 ∷ a ∷ SSemiColon ∷ SSemiColon ∷ EOF ∷ []
+
+two-semicolons : (j : ℕ) → j ≤ 1 → tok sum (4 + 1 + j) ≡ SSemiColon
+unfolding tok
+two-semicolons zero h = refl
+two-semicolons (suc zero) h = refl
+two-semicolons (suc (suc j)) h = absurd (omega arith)
+
+sum-grouped : Grouping sum 10 0 5 5 (operand (identifier 0) ∷ sign 0 1 ∷ operand (identifier 2) ∷ sign 2 3 ∷ operand (identifier 4) ∷ [])
+unfolding tok class code by-code orders infixes order infix-of codes valid need longest both words-good array-good
+sum-grouped =
+    chains sum 0 3 5 _ refl (more an-identifier refl (more an-identifier refl (one an-identifier))) (by-semicolons 1 two-semicolons refl (λ e. omega arith))
+
+-- a ( a ) - ( a - a ) * a [ a ]
+abbrev mixed : List ℕ
+mixed = a ∷ SLParen ∷ a ∷ SRparen ∷ sym 2 ∷ SLParen ∷ a ∷ sym 2 ∷ a ∷ SRparen ∷ sym 3 ∷ a ∷ SLBox ∷ a ∷ SRBox ∷ EOF ∷ []
+
+mixed-grouped : Grouping mixed 12 0 14 11
+    (operand (call 1 (identifier 0) (identifier 2 ▸ nil)) ∷ sign 1 4 ∷ operand (infixed 257 7 (identifier 6) (identifier 8)) ∷ sign 2 10 ∷ operand (index 12 (identifier 11) (identifier 13)) ∷ [])
+unfolding tok step is next-is class code by-code orders infixes order infix-of operates goes-on codes valid join flag flagged is-call rows-of nesting
+    _>>=_ _>>_ need build choose match turns longest both words-good array-good
+    e.get-identifier e.dots e.dot-expression e.no-prefix e.entries e.list-expr e.pair e.hash-literal e.array e.lambda e.started e.prefix e.sub-expression e.command e.shell
+    e.prefix-part e.infix-expression e.suffix-expression e.call e.index e.operation e.climb e.level e.expression
+mixed-grouped = operands mixed 3 0 14 _ refl (further refl (λ e. omega arith) refl refl (further refl (λ e. omega arith) refl refl (final refl))) refl (omega arith)
+
+-- a = a || a && a | a & a == a < a + a * a, with its nine orders rising
+abbrev rising : List ℕ
+rising = a ∷ SEq ∷ a ∷ sym 26 ∷ a ∷ sym 25 ∷ a ∷ sym 21 ∷ a ∷ sym 20 ∷ a ∷ sym 16 ∷ a ∷ sym 7 ∷ a ∷ sym 1 ∷ a ∷ sym 3 ∷ a ∷ EOF ∷ []
+
+nine-refused : e.expression rising 9 Zero 0 19 ≡ refused TooDeep 18
+unfolding tok step is next-is class code by-code orders infixes order infix-of operates goes-on _>>=_ _>>_ need build choose match turns
+    e.get-identifier e.dot-expression e.prefix-part e.infix-expression e.operation e.climb e.level e.expression
+nine-refused = refl

@@ -1,0 +1,2 @@
+-- What the contracts of `rows` say.
+pub mod Rows

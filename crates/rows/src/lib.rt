@@ -1,0 +1,144 @@
+// The rows of a pool: a row is built behind those that are there, linked, marked, and its kind is read.
+ghost use mathlib.Core.Path.{_≡_};
+ghost use mathlib.Core.List.{_++_};
+ghost use Prim.Native.Nat.{_≤_};
+ghost use lib.ListN.{length, drop, replicate};
+ghost use Rattle.grammar.specs.Tree.{flag};
+ghost use Rattle.rows.specs.Rows.{width, words, Builds, is-row, linked, marked, bit, kind-of};
+
+// How many words a row takes.
+const WIDTH: usize = 8;
+
+// Where in its row each word stands that is read or changed later.
+const KIND: usize = 0;
+
+const MARK: usize = 1;
+
+const NEXT: usize = 7;
+
+// The number of the refusal where no row is free.
+const NO_ROW: u32 = 3;
+
+// A row to build: its words but the last, which says that no row is next.
+pub struct Row {
+    pub kind: u32,
+    pub mark: u32,
+    pub place: u32,
+    pub c0: u32,
+    pub c1: u32,
+    pub c2: u32,
+    pub c3: u32,
+}
+
+// How many rows are there now; or a refusal, by its number and place.
+pub enum Built {
+    Rows(usize),
+    Refused(u32, usize),
+}
+
+// What a mark can say besides its number: a call on a thread, one not waited for, a row in brackets.
+pub enum Flag {
+    Thread,
+    Async,
+    Grouped,
+}
+
+// A row at the front of a part of the pool.
+fn fill(part: &mut [u32], row: Row)
+    requires { ⌜ width ≤ length (now part) ⌝ }
+    ensures { λ r. ⌜ now (part .exit) ≡ words row ++ drop width (now (part .entry)) ⌝ }
+{
+    part[KIND] = row.kind;
+    part[MARK] = row.mark;
+    part[2] = row.place;
+    part[3] = row.c0;
+    part[4] = row.c1;
+    part[5] = row.c2;
+    part[6] = row.c3;
+    part[NEXT] = 0;
+}
+
+// A row behind the first `rows` rows of the pool, or a refusal at `place` where no row is free.
+pub fn build(pool: &mut [u32], rows: usize, row: Row, place: usize) -> Built
+    ensures { λ r. ⌜ Builds (now (pool .entry)) rows (words row) place r (now (pool .exit)) ⌝ }
+{
+    if rows < pool.len() / WIDTH {
+        let i = WIDTH * rows;
+        fill(&mut pool[i..], row);
+        return Built::Rows(rows + 1);
+    }
+    Built::Refused(NO_ROW, place)
+}
+
+// Whether a reference is that of a row in so many words.
+fn is_row(words: usize, reference: usize) -> bool
+    ensures { λ r. ⌜ r ≡ is-row words reference ⌝ }
+{
+    if 0 < reference {
+        reference <= words / WIDTH
+    } else {
+        false
+    }
+}
+
+// The row with this reference gets a row behind it in its list; nothing changes where there is no such row.
+pub fn link(pool: &mut [u32], reference: usize, next: u32)
+    ensures { λ r. ⌜ now (pool .exit) ≡ linked (now (pool .entry)) reference next ⌝ }
+{
+    if is_row(pool.len(), reference) {
+        let i = WIDTH * (reference - 1) + NEXT;
+        pool[i] = next;
+    }
+}
+
+// The number that stands for a flag in a mark.
+fn bit_of(f: Flag) -> u32
+    ensures { λ r. ⌜ r ≡ bit f ⌝ }
+{
+    match f {
+        Flag::Thread => 1,
+        Flag::Async => 2,
+        Flag::Grouped => 256,
+    }
+}
+
+// A mark with a flag in it, once.
+fn with_flag(mark: u32, f: Flag) -> u32
+    ensures { λ r. ⌜ r ≡ flag (bit f) mark ⌝ }
+{
+    let b = bit_of(f);
+    if mark / b % 2 == 0 { mark + b } else { mark }
+}
+
+// A flag goes into the mark of the row with this reference; nothing changes where there is no such row.
+pub fn mark(pool: &mut [u32], reference: usize, f: Flag)
+    ensures { λ r. ⌜ now (pool .exit) ≡ marked (now (pool .entry)) reference f ⌝ }
+{
+    if is_row(pool.len(), reference) {
+        let i = WIDTH * (reference - 1) + MARK;
+        pool[i] = with_flag(pool[i], f);
+    }
+}
+
+// The kind of the row with this reference, 0 where there is no such row.
+pub fn kind(pool: &[u32], reference: usize) -> u32
+    ensures { λ r. ⌜ r ≡ kind-of (now (pool .entry)) reference ⌝ }
+{
+    if is_row(pool.len(), reference) {
+        let i = WIDTH * (reference - 1) + KIND;
+        pool[i]
+    } else {
+        0
+    }
+}
+
+// Every word of the pool becomes 0.
+pub fn clear(pool: &mut [u32])
+    ensures { λ r. ⌜ now (pool .exit) ≡ replicate (length (now (pool .entry))) 0 ⌝ }
+{
+    let mut i = 0;
+    while i < pool.len() {
+        pool[i] = 0;
+        i += 1;
+    }
+}

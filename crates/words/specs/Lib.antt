@@ -1,0 +1,4 @@
+-- What the contracts say on top of the definition of the language.
+pub mod Symbols
+pub mod Tokens
+pub mod Array

@@ -1,0 +1,130 @@
+//! The worked examples of document 01 and of the project's readings, and their check.
+use crate::batch::{Answer, Case};
+use crate::gen;
+use crate::model::{Entry, MOST_ROWS, ROW};
+use crate::selfcheck::difference;
+use crate::words::*;
+use crate::{compare, text, tree};
+use std::io;
+
+const TABLE: &str = include_str!("../examples.txt");
+
+/// A case and what is to come of it: `no NUMBER PLACE`, or `ok PLACE` with or without a tree.
+pub struct Example {
+    pub case: Case,
+    pub expected: String,
+}
+
+/// The table's examples and the long ones.
+pub fn all() -> io::Result<Vec<Example>> {
+    let lines: Vec<&str> =
+        TABLE.lines().filter(|line| !line.starts_with('#') && !line.trim().is_empty()).collect();
+    let heads = lines.chunks(2).map(|pair| pair[0].split_once(' ').unwrap_or((pair[0], "")));
+    let texts: Vec<&str> = heads.clone().map(|(_, text)| text).collect();
+    let arrays = text::to_words(&texts.join("\n"))?;
+    let mut examples = vec![];
+    for (((head, _), pair), tokens) in heads.zip(lines.chunks(2)).zip(arrays) {
+        let expected = pair[1].trim().to_string();
+        examples.push(Example { case: case(head, tokens), expected });
+    }
+    examples.extend(long());
+    Ok(examples)
+}
+
+/// A case from an entry's letter, with a number of rows behind a stroke if they are few.
+fn case(head: &str, tokens: Vec<u16>) -> Case {
+    let (letter, rows) = head.split_once('/').unwrap_or((head, ""));
+    let entry = entry(letter).expect("the table's entries are X, S and W");
+    let pool = rows.parse().map_or(gen::enough(&tokens), |rows: usize| rows * ROW);
+    Case { entry, start: 0, pool, tokens }
+}
+
+/// The entry of a letter.
+pub fn entry(letter: &str) -> Option<Entry> {
+    gen::ENTRIES.into_iter().find(|&entry| compare::letter(entry).to_string() == letter)
+}
+
+/// Examples made of one thing again and again: `before`, a middle, `behind`.
+fn repeated(head: &str, count: usize, parts: [&[u16]; 3], expected: &str) -> Example {
+    let [before, middle, behind] = parts;
+    let mut tokens = before.repeat(count);
+    tokens.extend_from_slice(middle);
+    tokens.extend(behind.repeat(count));
+    tokens.push(EOF);
+    Example { case: case(head, tokens), expected: expected.into() }
+}
+
+/// The edges of nesting and of length.
+fn long() -> Vec<Example> {
+    const A: u16 = IDENTIFIER;
+    let not = |head, count, expected| repeated(head, count, [&[EXCL], &[A], &[]], expected);
+    let tries = |count, expected| {
+        let behind = [RBRACE, CATCH, A, LBRACE, RBRACE];
+        repeated("S", count, [&[TRY, LBRACE], &[EMPTY], &behind], expected)
+    };
+    let ladder = [A, EQ, A, LOR, A, LAND, A, OR, A, AND, A, EEQ, A, LT, A, PLUS, A, MUL, A];
+    let climb = |count, expected| repeated("X", count, [&[EXCL], &ladder, &[]], expected);
+    let names = |rows: usize, expected| {
+        repeated(&format!("W/{}", rows), LONGEST - 1, [&[A], &[], &[]], expected)
+    };
+    vec![
+        not("X", 63, "ok 63"),
+        not("X", 64, "no 2 64"),
+        not("S", 62, "ok 62"),
+        not("S", 63, "no 2 63"),
+        not("W", 62, "ok 63"),
+        not("W", 63, "no 2 63"),
+        tries(63, "ok 441"),
+        tries(64, "no 2 128"),
+        climb(54, "ok 72"),
+        climb(55, "no 2 73"),
+        names(MOST_ROWS, "ok 32767"),
+        names(MOST_ROWS - 1, "no 3 32767"),
+        repeated("X", 9000, [&[A, EQ], &[A], &[]], "ok 18000"),
+        repeated("X", 9000, [&[], &[A], &[LPAREN, RPAREN]], "ok 18000"),
+        repeated("X", 9000, [&[], &[A], &[INCR]], "ok 9000"),
+    ]
+}
+
+/// What differs from what was expected, or between model and original.
+pub fn check(example: &Example) -> Result<(), String> {
+    let answer = example.case.answer();
+    let (short, full) = outcome(&answer);
+    if example.expected != short && example.expected != full {
+        return Err(format!("expected {}\n  model    {}", example.expected, full));
+    }
+    difference(&example.case, &answer).unwrap_or(Ok(()))
+}
+
+/// An answer in the words of the table, without and with its tree.
+fn outcome(answer: &Answer) -> (String, String) {
+    if answer.words[0] != 0 {
+        let refused = format!("no {} {}", answer.words[0], answer.words[1]);
+        return (refused.clone(), refused);
+    }
+    let accepted = format!("ok {}", answer.words[3]);
+    let full = format!("{} {}", accepted, tree::line(&answer.row_arrays(), answer.root()));
+    (accepted, full)
+}
+
+#[cfg(test)]
+mod tests {
+    use super::*;
+
+    #[test]
+    fn every_example_holds() {
+        crate::on_large_stack(|| {
+            let examples = all().unwrap();
+            assert!(examples.len() > 60);
+            for example in examples {
+                check(&example).unwrap_or_else(|what| panic!("{}", what));
+            }
+        });
+    }
+
+    #[test]
+    fn a_wrong_expectation_is_noticed() {
+        let wrong = repeated("X", 1, [&[IDENTIFIER], &[], &[]], "ok 1");
+        assert!(check(&wrong).is_err());
+    }
+}

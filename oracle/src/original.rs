@@ -1,0 +1,47 @@
+//! The original parser's answer to a case, with its tree laid out in rows.
+mod layout;
+mod refusals;
+
+use crate::batch::Case;
+use crate::lexer::LexerAPI;
+use crate::model::{Entry, Row};
+use crate::parser::debug::ParserError;
+use crate::parser::Parser;
+use layout::Layout;
+
+/// Stands for a place that the original's tree doesn't hold.
+pub const UNKNOWN: u32 = u32::MAX;
+
+/// Rows are as far as the tree tells: no grouped mark, and places of leaves and names only.
+#[derive(Debug, PartialEq)]
+pub enum Outcome {
+    Accepted { root: u32, place: u32, rows: Vec<Row> },
+    Refused { number: u32, place: u32 },
+}
+
+/// Runs the original on a valid array; `case.start` is below its length.
+pub fn run(case: &Case) -> Outcome {
+    let start = if case.entry == Entry::Script { 0 } else { case.start };
+    let mut parser = Parser::new_from_lexer(LexerAPI::new(&case.tokens, start));
+    let mut layout = Layout::default();
+    let root = match case.entry {
+        Entry::Expression => parser.oracle_expression().map(|tree| layout.expression(&tree)),
+        Entry::Statement => parser.oracle_statement().map(|tree| layout.statement(&tree)),
+        // The original goes on behind an error; 01 stops, so the first one counts.
+        Entry::Script => match parser.parse() {
+            Ok(program) => Ok(layout.block(&program, 0)),
+            Err(errors) => Err(errors[0].clone()),
+        },
+    };
+    match root {
+        Ok(root) => {
+            let place = parser.lexer.get_current_token().pos as u32;
+            Outcome::Accepted { root, place, rows: layout.rows }
+        }
+        Err(error) => refusal(&error),
+    }
+}
+
+fn refusal(error: &ParserError) -> Outcome {
+    Outcome::Refused { number: refusals::number(&error.message), place: error.pos as u32 }
+}

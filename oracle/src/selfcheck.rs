@@ -1,0 +1,152 @@
+//! The self-check: model and original side by side, on every kind of case.
+use crate::batch::{Answer, Case};
+use crate::compare::{describe, summary, SHOWN};
+use crate::examples;
+use crate::gen::{self, Kind, Wish};
+use crate::kinds;
+use crate::model::{Row, ROW};
+use crate::original::{self, Outcome, UNKNOWN};
+use crate::places;
+use std::collections::BTreeMap;
+use std::io;
+
+/// How many cases of each kind; the exhaustive kind has all.
+const PLAN: [(Kind, Option<usize>); 7] = [
+    (Kind::Short, None),
+    (Kind::Valid, Some(80_000)),
+    (Kind::Damaged, Some(120_000)),
+    (Kind::Noise, Some(80_000)),
+    (Kind::Chains, Some(40_000)),
+    (Kind::Nesting, Some(40_000)),
+    (Kind::Limits, Some(10_000)),
+];
+
+/// The refusals that both model and original can give.
+const SHARED: std::ops::RangeInclusive<u32> = 10..=29;
+
+#[derive(Default)]
+struct Tally {
+    compared: usize,
+    skipped: usize,
+    differing: usize,
+    before: [usize; 3],
+    refusals: BTreeMap<u32, usize>,
+    kinds: BTreeMap<u32, usize>,
+}
+
+/// Compares everything with the given seed; true if nothing differs and everything was met.
+pub fn run(seed: u64) -> io::Result<bool> {
+    let mut all = Tally::default();
+    for example in examples::all()? {
+        all.note(&example.case, Some(examples::check(&example)));
+    }
+    all.section("examples");
+    for (kind, count) in PLAN {
+        for case in gen::cases(&Wish { kind, seed, count, scarce: false }) {
+            all.check(&case);
+        }
+        all.section(&format!("{:?}", kind).to_lowercase());
+    }
+    let met = all.report();
+    println!("{} compared, {} differing", all.compared, all.differing);
+    Ok(met && all.differing == 0)
+}
+
+impl Tally {
+    fn check(&mut self, case: &Case) {
+        let answer = case.answer();
+        self.count(&answer);
+        self.note(case, difference(case, &answer));
+    }
+
+    /// Counts a verdict and prints the first that differ.
+    fn note(&mut self, case: &Case, verdict: Option<Result<(), String>>) {
+        match verdict {
+            None => self.skipped += 1,
+            Some(Ok(())) => self.compared += 1,
+            Some(Err(what)) => {
+                self.compared += 1;
+                self.differing += 1;
+                if self.differing <= SHOWN {
+                    println!("{}\n  {}", describe(case), what);
+                }
+            }
+        }
+    }
+
+    /// Prints what was counted since the last section.
+    fn section(&mut self, name: &str) {
+        let now = [self.compared, self.skipped, self.differing];
+        let [compared, skipped, differing] = [0, 1, 2].map(|index| now[index] - self.before[index]);
+        self.before = now;
+        println!(
+            "{}: {} compared, {} by the model only, {} differing",
+            name, compared, skipped, differing
+        );
+    }
+
+    fn count(&mut self, answer: &Answer) {
+        *self.refusals.entry(answer.words[0]).or_default() += 1;
+        for row in answer.rows.chunks(ROW) {
+            *self.kinds.entry(row[0]).or_default() += 1;
+        }
+    }
+
+    /// Prints how often each answer and kind of row was met; false if one never was.
+    fn report(&self) -> bool {
+        let list = |counts: &BTreeMap<u32, usize>| {
+            let pairs: Vec<String> =
+                counts.iter().map(|(number, count)| format!("{}: {}", number, count)).collect();
+            pairs.join(", ")
+        };
+        println!("answers by number: {}", list(&self.refusals));
+        println!("rows by kind: {}", list(&self.kinds));
+        let answers = SHARED.chain([0]).all(|n| self.refusals.contains_key(&n));
+        let rows = kinds::ALL.iter().all(|kind| self.kinds.contains_key(kind));
+        if !(answers && rows) {
+            println!("not every answer and kind was met");
+        }
+        answers && rows
+    }
+}
+
+/// Whether model and original differ; None where only the model can answer.
+pub fn difference(case: &Case, answer: &Answer) -> Option<Result<(), String>> {
+    if answer.words[0] != 0 && !SHARED.contains(&answer.words[0]) {
+        return None;
+    }
+    let outcome = original::run(case);
+    if answer.clean == 1 && same(answer, &outcome) {
+        return Some(places::misplaced(case, answer).map_or(Ok(()), Err));
+    }
+    Some(Err(contrast(answer, &outcome)))
+}
+
+/// Both answers, and the first row in which they differ.
+fn contrast(answer: &Answer, outcome: &Outcome) -> String {
+    let own = summary(answer);
+    let Outcome::Accepted { root, place, rows } = outcome else {
+        return format!("model {}, original {:?}", own, outcome);
+    };
+    let mut pairs = answer.row_arrays().into_iter().zip(rows).enumerate();
+    let first = pairs.find(|(_, (own, row))| !same_row(own, row));
+    format!("model {}, original ok {} {} {}, first row {:?}", own, root, rows.len(), place, first)
+}
+
+fn same(answer: &Answer, outcome: &Outcome) -> bool {
+    match outcome {
+        Outcome::Refused { number, place } => answer.words == [*number, *place, 0, 0],
+        Outcome::Accepted { root, place, rows } => {
+            answer.words == [0, *root, rows.len() as u32, *place]
+                && answer.rows.chunks(ROW).zip(rows).all(|(own, row)| same_row(own, row))
+        }
+    }
+}
+
+/// Rows agree in all that the original's tree holds.
+fn same_row(own: &[u32], row: &Row) -> bool {
+    own[0] == row[0]
+        && own[1] % kinds::GROUPED == row[1]
+        && (row[2] == UNKNOWN || own[2] == row[2])
+        && own[3..] == row[3..]
+}
