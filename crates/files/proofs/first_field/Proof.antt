@@ -1,0 +1,148 @@
+-- `files::first_field` meets its contract: by the tests of the head and of the payload's length.
+use mathlib.Core.Path.{_≡_, refl, sym, _∙_}
+use mathlib.Core.Bool.{true, false, cond, _&&_}
+use mathlib.Core.List.{List, [], _∷_}
+use Prim.Native.Nat.{ℕ, _+_, _*_, _-_, _≤_, _<_}
+use native.Mathlib.Omega.{arith}
+use borrow.Author.Needs.{needs}
+use borrow.Author.Tests.{eqb-true, le-leb, lt-leb, not-true, not-false}
+use lib.Dec.{leb}
+use lib.ListN.{length, getD, take, drop, length-drop}
+use lib.Seq.{getD-take, getD-drop}
+use Rattle.files.specs.declared.Field.the-variants.{Good, Bad}
+use Rattle.files.specs.File.{coded, allowed, word, first}
+use Rattle.files.proofs.first_field.Statement.{statement}
+use Rattle.files.proofs.first_field.Tie as tie
+
+-- a field whose head is cut
+cut : (part : List ℕ) → length part < 3 → first part ≡ Bad
+unfolding first
+cut [] h = refl
+cut (tag ∷ []) h = refl
+cut (tag ∷ high ∷ []) h = refl
+cut (tag ∷ high ∷ low ∷ rest) h = absurd (omega arith)
+
+-- a part that begins with a whole head, which gives this size
+record Headed (part : List ℕ) (size : ℕ) : Type 0 where
+  long : 3 ≤ length part
+  sized : size ≡ getD part 1 0 * 256 + getD part 2 0
+
+-- the field behind a whole head, by its tag, its size and what is behind
+whole : (part : List ℕ) (size : ℕ) → Headed part size
+    → first part ≡ cond (allowed (getD part 0 0) size && leb size (length (drop 3 part))) (Good (word (getD part 0 0) (take size (drop 3 part))) (3 + size)) Bad
+unfolding first
+whole [] size h = absurd (omega arith)
+whole (tag ∷ []) size h = absurd (omega arith)
+whole (tag ∷ high ∷ []) size h = absurd (omega arith)
+whole (tag ∷ high ∷ low ∷ rest) size h = rw (h .sized)
+
+module _ {part : List ℕ} {size : ℕ} (h : Headed part size) where
+  unallowed : allowed (getD part 0 0) size ≡ false → first part ≡ Bad
+  unallowed n = rw (whole part size h, n)
+
+  module _ (a : allowed (getD part 0 0) size ≡ true) where
+    short : length part - 3 < size → first part ≡ Bad
+    short s = rw (whole part size h, a, length-drop, lt-leb size (length part - 3) s)
+
+    module _ (s : size ≤ length part - 3) where
+      good : first part ≡ Good (word (getD part 0 0) (take size (drop 3 part))) (3 + size)
+      good = rw (whole part size h, a, length-drop, le-leb size (length part - 3) s)
+
+      plain : coded (getD part 0 0) ≡ false → first part ≡ Good (getD part 0 0 * 256 + 0) (3 + size)
+      plain n = good ∙ rw n
+
+      one : coded (getD part 0 0) ≡ true → size ≡ 1
+      unfolding allowed
+      one k = eqb-true size 1 (rw k at a)
+
+      with-code : coded (getD part 0 0) ≡ true → first part ≡ Good (getD part 0 0 * 256 + getD part 3 0) (3 + size)
+      with-code k = good ∙ rw (k, getD-take size (drop 3 part) 0 0 (omega (arith, one k)), getD-drop 3 part 0 0)
+
+-- the head that was read
+headed : (c : tie.After-size-of) → Headed (c .before .before .before .before .before .before .args .part .now) (c .size-of .result)
+headed c = record { long = c .before .before .before .before .if1 .left; sized = c .size-of .ensures }
+
+-- what the second test says
+agreed : (c : tie.Else2) → allowed (getD (c .before .before .before .before .before .before .before .before .args .part .now) 0 0) (c .before .before .size-of .result) ≡ true
+agreed c = sym (c .before .is-allowed .ensures) ∙ not-false _ (c .if2 .left)
+
+returns : tie.Need-returns
+returns c = sym (cut (c .before .before .args .part .now) (c .if1 .taken))
+
+shared-slice-read-tag : tie.Need-shared-slice-read-tag
+shared-slice-read-tag c = search needs
+
+shared-slice-read-size-of : tie.Need-shared-slice-read-size-of
+shared-slice-read-size-of c = search needs
+
+shared-slice-read-size-of-2 : tie.Need-shared-slice-read-size-of-2
+shared-slice-read-size-of-2 c = search needs
+
+size-of-requires : tie.Need-size-of-requires
+size-of-requires c κs = search needs
+
+is-allowed-requires : tie.Need-is-allowed-requires
+is-allowed-requires c κs = search needs
+
+returns-2 : tie.Need-returns-2
+returns-2 c = sym (unallowed (headed (c .before .before)) (sym (c .before .is-allowed .ensures) ∙ not-true _ (c .if2 .taken)))
+
+sub-if3 : tie.Need-sub-if3
+sub-if3 c = search needs
+
+returns-3 : tie.Need-returns-3
+returns-3 c = sym (short (headed (c .before .before .before)) (agreed (c .before)) (c .if3 .taken))
+
+is-coded-requires : tie.Need-is-coded-requires
+is-coded-requires c κs = search needs
+
+shared-slice-read-word-of : tie.Need-shared-slice-read-word-of
+shared-slice-read-word-of c =
+    let fits = c .before .before .before in
+    omega (arith, one (headed (fits .before .before .before)) (agreed (fits .before)) (fits .if3 .left) (sym (c .before .before .is-coded .ensures) ∙ c .before .if4 .taken), fits .if3 .left)
+
+word-of-requires : tie.Need-word-of-requires
+word-of-requires c κs = search needs
+
+add-t17 : tie.Need-add-t17
+add-t17 c = search needs
+
+returns-4 : tie.Need-returns-4
+returns-4 c =
+    let called = c .before .before .before in
+    let fits = called .before in
+    sym (with-code (headed (fits .before .before .before)) (agreed (fits .before)) (fits .if3 .left) (sym (called .is-coded .ensures) ∙ c .before .before .if4 .taken) ∙ rw (c .word-of .ensures))
+
+word-of-requires-2 : tie.Need-word-of-requires-2
+word-of-requires-2 c κs = search needs
+
+add-t4 : tie.Need-add-t4
+add-t4 c = search needs
+
+returns-5 : tie.Need-returns-5
+returns-5 c =
+    let called = c .before .before in
+    let fits = called .before in
+    sym (plain (headed (fits .before .before .before)) (agreed (fits .before)) (fits .if3 .left) (sym (called .is-coded .ensures) ∙ c .before .if4 .left) ∙ rw (c .word-of2 .ensures))
+
+pub first-field-spec : {M : Type 1} → statement M
+first-field-spec =
+    tie.close
+    (tie.spec
+    returns
+    shared-slice-read-tag
+    shared-slice-read-size-of
+    shared-slice-read-size-of-2
+    size-of-requires
+    is-allowed-requires
+    returns-2
+    sub-if3
+    returns-3
+    is-coded-requires
+    shared-slice-read-word-of
+    word-of-requires
+    add-t17
+    returns-4
+    word-of-requires-2
+    add-t4
+    returns-5)

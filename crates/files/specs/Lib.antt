@@ -1,0 +1,3 @@
+-- The definitions that the contracts of `files` cite.
+pub mod File
+pub mod Entry

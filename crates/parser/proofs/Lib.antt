@@ -1,0 +1,12 @@
+mod Slots
+mod Fronts
+mod Answers
+mod Parts
+mod Roots
+mod Loops
+mod Moves
+mod Matches
+mod Bodies
+mod Ends
+mod Lists
+mod Wholes

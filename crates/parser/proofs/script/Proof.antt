@@ -1,0 +1,53 @@
+-- `script` meets its contract: the statements up to EOF, and their block.
+use mathlib.Core.Path.{refl, _∙_}
+use mathlib.Core.List.{[]}
+use native.Mathlib.Omega.{arith}
+use Rattle.grammar.specs.Script.{nesting}
+use Rattle.parser.specs.Entries.{script}
+use Rattle.parser.specs.Meets.{of-node}
+use Rattle.parser.proofs.Answers.{no-list, taken, pass, by-eq, then-read}
+use borrow.Author.Needs.{needs}
+use Rattle.parser.proofs.script.Statement.{statement}
+use Rattle.parser.proofs.script.Tie as tie
+
+statements-requires : tie.Need-statements-requires
+statements-requires c κs = (c .before .before .before .pre, omega arith)
+
+enum-known-r : tie.Need-enum-known-r
+enum-known-r c = search needs
+
+enum-told : tie.Need-enum-told
+enum-told c = search needs
+
+same-length : tie.Need-same-length
+same-length c = c .before .before .before .before .statements .kept .1 .0
+
+returns : tie.Need-returns
+unfolding script nesting
+returns c = pass _ (c .before .before .before .before .statements .ensures .1 _ _ _ _ (no-list _ _ (c .before .before .before .before .before .before .before .before .pre .within)) refl) (c .enum-told .given .1)
+
+put-row-requires : tie.Need-put-row-requires
+put-row-requires c κs = (omega (arith, c .before .before .before .before .before .before .before .before .before .before .pre .fits, c .before .before .before .before .before .before .statements .kept .1 .0), omega arith)
+
+same-length-2 : tie.Need-same-length-2
+same-length-2 c = c .before .before .put-row .kept .0 ∙ c .before .before .before .before .before .before .before .before .before .statements .kept .1 .0
+
+returns-2 : tie.Need-returns-2
+unfolding script nesting
+returns-2 c =
+    let h = taken (c .before .before .before .before .before .before .before .before .before .statements .ensures .1 _ _ _ _ (no-list _ _ (c .before .before .before .before .before .before .before .before .before .before .before .before .before .pre .within)) refl) (c .before .before .before .before .before .r .given .1) in
+    by-eq (then-read _ (h .eq))
+    (c .before .before .put-row .ensures (c .before .before .before .before .before .before .before .before .before .before .before .before .before .args .tokens .now) (h .stands .within) .1 _ [] _ _ _ _ (h .stands) (record { few = tt; root = of-node; refs = (h .head, refl, refl, refl) }))
+
+pub script-spec : {M : Type 1} → statement M
+script-spec =
+    tie.close
+    (tie.spec
+    statements-requires
+    enum-known-r
+    enum-told
+    same-length
+    returns
+    put-row-requires
+    same-length-2
+    returns-2)

@@ -1,0 +1,616 @@
+// The readers of expressions: one cycle, each named after the original's function.
+use super::dots::dot_expression;
+use super::names::*;
+use super::part::Read;
+use super::part::closed;
+use super::part::first_of;
+use super::part::leaf;
+use super::part::put_row;
+use rows::Flag;
+use words::Cursor;
+use words::Keyword;
+use words::Symbol;
+use words::Token;
+ghost use mathlib.Core.Path.{_≡_};
+ghost use Prim.Native.Nat.{ℕ, _*_, _≤_, _<_};
+ghost use lib.ListN.{length};
+ghost use Rattle.grammar.specs.Words.{tok};
+ghost use Rattle.grammar.specs.Parsed.{turns};
+ghost use Rattle.grammar.specs.Expressions as spec;
+ghost use Rattle.words.specs.Tokens.{word};
+ghost use Rattle.words.specs.declared.tokens.Token.the-variants as token;
+ghost use Rattle.rows.specs.Rows.{bit};
+ghost use Rattle.parser.specs.Meets.{Ready, one, many};
+ghost use Rattle.parser.specs.Contracts.{Fresh, Behind, Follows, Extends};
+ghost use Rattle.parser.specs.Contracts as contract;
+
+// parse_expression, where `allow` more expressions and statements may be open.
+pub fn expression(
+    tokens: &[u16],
+    pool: &mut [u32],
+    first: usize,
+    c: Cursor,
+    order: usize,
+    allow: usize,
+) -> Read
+    requires { ⌜ Ready (now tokens) (now pool) first (c .at) ⌝ }
+    ensures { λ r. ⌜ Fresh one (spec.expression (now (tokens .entry)) allow order) (now (tokens .entry)) (c .at) first r (now (pool .entry)) (now (pool .exit)) ⌝ }
+{
+    if allow == 0 {
+        return Read::Refused(TOO_DEEP, c.at);
+    }
+    let less = allow - 1;
+    let r = prefix_part(tokens, pool, first, c, less);
+    let Read::Tree(k, h, d) = r else {
+        return r;
+    };
+    if words::next_symbol_is(tokens, d, Symbol::SSemiColon) {
+        return Read::Tree(k, h, words::iterate(tokens, d));
+    }
+    climb(tokens, pool, first, k, h, d, order, less)
+}
+
+// The match at the head of parse_expression.
+fn prefix_part(tokens: &[u16], pool: &mut [u32], first: usize, c: Cursor, less: usize) -> Read
+    requires { ⌜ Ready (now tokens) (now pool) first (c .at) ⌝ }
+    ensures { λ r. ⌜ Fresh one (spec.prefix-part (now (tokens .entry)) (spec.expression (now (tokens .entry)) less)) (now (tokens .entry)) (c .at) first r (now (pool .entry)) (now (pool .exit)) ⌝ }
+{
+    let t = words::current(tokens, c);
+    match t {
+        Token::Identifier => dot_expression(tokens, pool, first, c),
+        Token::Integer => leaf(pool, first, c, INT, 0),
+        Token::Float => leaf(pool, first, c, FLOAT, 0),
+        Token::Char => leaf(pool, first, c, CHAR, 0),
+        Token::Str => leaf(pool, first, c, STRING, 0),
+        Token::Keyword(k) => keyword_part(tokens, pool, first, c, k, less),
+        Token::Operator(s) => operator_part(tokens, pool, first, c, s, less),
+        _ => Read::Refused(INVALID_TOKEN, c.at),
+    }
+}
+
+// The expressions that begin with a keyword.
+fn keyword_part(
+    tokens: &[u16],
+    pool: &mut [u32],
+    first: usize,
+    c: Cursor,
+    k: Keyword,
+    less: usize,
+) -> Read
+    requires { ⌜ (Ready (now tokens) (now pool) first (c .at)) × (tok (now tokens) (c .at) ≡ word (token.Keyword k)) ⌝ }
+    ensures { λ r. ⌜ Fresh one (spec.prefix-part (now (tokens .entry)) (spec.expression (now (tokens .entry)) less)) (now (tokens .entry)) (c .at) first r (now (pool .entry)) (now (pool .exit)) ⌝ }
+{
+    match k {
+        Keyword::KTrue => leaf(pool, first, c, BOOL, 1),
+        Keyword::KFalse => leaf(pool, first, c, BOOL, 0),
+        Keyword::KLambda => lambda(tokens, pool, first, c, less),
+        Keyword::KNone => leaf(pool, first, c, NONE, 0),
+        Keyword::KThread => started(tokens, pool, first, c, Flag::Thread, less),
+        Keyword::KAsync => started(tokens, pool, first, c, Flag::Async, less),
+        _ => Read::Refused(NOT_IMPLEMENTED, c.at),
+    }
+}
+
+// The expressions that begin with an operator.
+fn operator_part(
+    tokens: &[u16],
+    pool: &mut [u32],
+    first: usize,
+    c: Cursor,
+    s: Symbol,
+    less: usize,
+) -> Read
+    requires { ⌜ (Ready (now tokens) (now pool) first (c .at)) × (tok (now tokens) (c .at) ≡ word (token.Operator s)) ⌝ }
+    ensures { λ r. ⌜ Fresh one (spec.prefix-part (now (tokens .entry)) (spec.expression (now (tokens .entry)) less)) (now (tokens .entry)) (c .at) first r (now (pool .entry)) (now (pool .exit)) ⌝ }
+{
+    match s {
+        Symbol::SLBox => array(tokens, pool, first, c, less),
+        Symbol::SLBrace => hash_literal(tokens, pool, first, c, less),
+        Symbol::SIncr => prefix(tokens, pool, first, c, 0, less),
+        Symbol::SDecr => prefix(tokens, pool, first, c, 1, less),
+        Symbol::SExcl => prefix(tokens, pool, first, c, 2, less),
+        Symbol::SNeg => prefix(tokens, pool, first, c, 3, less),
+        Symbol::SLParen => sub_expression(tokens, pool, first, c, less),
+        Symbol::SDollar => shell(tokens, pool, first, c, less),
+        _ => Read::Refused(INVALID_SYMBOL, c.at),
+    }
+}
+
+// A row of one child, the expression that begins at the cursor.
+pub fn around(
+    tokens: &[u16],
+    pool: &mut [u32],
+    first: usize,
+    c: Cursor,
+    kind: u32,
+    mark: u32,
+    place: usize,
+    less: usize,
+) -> Read
+    requires { ⌜ (Ready (now tokens) (now pool) first (c .at)) × (place < 65536) ⌝ }
+    ensures { λ r. ⌜ Fresh one (contract.around (spec.expression (now (tokens .entry)) less) kind mark place) (now (tokens .entry)) (c .at) first r (now (pool .entry)) (now (pool .exit)) ⌝ }
+{
+    let r = expression(tokens, pool, first, c, 0, less);
+    let Read::Tree(k, h, d) = r else {
+        return r;
+    };
+    put_row(pool, first, k, d, kind, mark, place, h, 0, 0, 0)
+}
+
+// parse_prefix_expression, by the mark of its operator.
+fn prefix(tokens: &[u16], pool: &mut [u32], first: usize, c: Cursor, mark: u32, less: usize) -> Read
+    requires { ⌜ Ready (now tokens) (now pool) first (c .at) ⌝ }
+    ensures { λ r. ⌜ Fresh one (spec.prefix (now (tokens .entry)) (spec.expression (now (tokens .entry)) less) mark) (now (tokens .entry)) (c .at) first r (now (pool .entry)) (now (pool .exit)) ⌝ }
+{
+    around(
+        tokens,
+        pool,
+        first,
+        words::iterate(tokens, c),
+        PREFIX,
+        mark,
+        c.at,
+        less,
+    )
+}
+
+// parse_shell_expression
+fn shell(tokens: &[u16], pool: &mut [u32], first: usize, c: Cursor, less: usize) -> Read
+    requires { ⌜ Ready (now tokens) (now pool) first (c .at) ⌝ }
+    ensures { λ r. ⌜ Fresh one (spec.shell (now (tokens .entry)) (spec.expression (now (tokens .entry)) less)) (now (tokens .entry)) (c .at) first r (now (pool .entry)) (now (pool .exit)) ⌝ }
+{
+    let d = words::iterate(tokens, c);
+    if words::next_symbol_is(tokens, c, Symbol::SDot) {
+        return around(
+            tokens,
+            pool,
+            first,
+            words::iterate(tokens, d),
+            SHELL,
+            1,
+            c.at,
+            less,
+        );
+    }
+    around(tokens, pool, first, d, SHELL, 0, c.at, less)
+}
+
+// An expression, or a pair of a hash.
+fn item(
+    tokens: &[u16],
+    pool: &mut [u32],
+    first: usize,
+    c: Cursor,
+    order: usize,
+    paired: bool,
+    less: usize,
+) -> Read
+    requires { ⌜ Ready (now tokens) (now pool) first (c .at) ⌝ }
+    ensures { λ r. ⌜ Fresh one (contract.item (now (tokens .entry)) (spec.expression (now (tokens .entry)) less) order paired) (now (tokens .entry)) (c .at) first r (now (pool .entry)) (now (pool .exit)) ⌝ }
+{
+    if paired {
+        return pair(tokens, pool, first, c, less);
+    }
+    expression(tokens, pool, first, c, order, less)
+}
+
+// An item behind the first `rows` rows of the part.
+pub fn behind(
+    tokens: &[u16],
+    pool: &mut [u32],
+    first: usize,
+    rows: usize,
+    c: Cursor,
+    order: usize,
+    paired: bool,
+    less: usize,
+) -> Read
+    requires { ⌜ (Ready (now tokens) (now pool) first (c .at)) × (8 * rows ≤ length (now pool)) ⌝ }
+    ensures { λ r. ⌜ Behind one (contract.item (now (tokens .entry)) (spec.expression (now (tokens .entry)) less) order paired) (now (tokens .entry)) (c .at) first rows r (now (pool .entry)) (now (pool .exit)) ⌝ }
+{
+    let i = 8 * rows;
+    let r = item(tokens, &mut pool[i..], first + rows, c, order, paired, less);
+    let Read::Tree(k, h, d) = r else {
+        return r;
+    };
+    Read::Tree(rows + k, h, d)
+}
+
+// The entries of a list behind the first: the loops of parse_list_expr and parse_hash_literal.
+fn entries(
+    tokens: &[u16],
+    pool: &mut [u32],
+    first: usize,
+    rows: usize,
+    head: u32,
+    c: Cursor,
+    paired: bool,
+    less: usize,
+) -> Read
+    requires { ⌜ (Ready (now tokens) (now pool) first (c .at)) × (8 * rows ≤ length (now pool)) ⌝ }
+    ensures { λ r. ⌜ Extends (spec.entries (now (tokens .entry)) (spec.expression (now (tokens .entry)) less) (contract.item (now (tokens .entry)) (spec.expression (now (tokens .entry)) less) 0 paired) turns) (now (tokens .entry)) (c .at) first rows head r (now (pool .entry)) (now (pool .exit)) ⌝ }
+{
+    let mut k = rows;
+    let mut h = head;
+    let mut d = c;
+    while words::next_symbol_is(tokens, d, Symbol::SComma) {
+        let e = words::iterate(tokens, words::iterate(tokens, d));
+        let r = behind(tokens, pool, first, k, e, 0, paired, less);
+        let Read::Tree(m, g, f) = r else {
+            return r;
+        };
+        rows::link(pool, k, g);
+        h = first_of(k, h, g);
+        k = m;
+        d = f;
+    }
+    Read::Tree(k, h, d)
+}
+
+// parse_list_expr
+pub fn list_expr(tokens: &[u16], pool: &mut [u32], first: usize, c: Cursor, less: usize) -> Read
+    requires { ⌜ Ready (now tokens) (now pool) first (c .at) ⌝ }
+    ensures { λ r. ⌜ Fresh many (spec.list-expr (now (tokens .entry)) (spec.expression (now (tokens .entry)) less)) (now (tokens .entry)) (c .at) first r (now (pool .entry)) (now (pool .exit)) ⌝ }
+{
+    if words::next_symbol_is(tokens, c, Symbol::SRparen) {
+        return Read::Tree(0, 0, c);
+    }
+    let r = expression(tokens, pool, first, words::iterate(tokens, c), 0, less);
+    let Read::Tree(k, h, d) = r else {
+        return r;
+    };
+    entries(tokens, pool, first, k, h, d, false, less)
+}
+
+// parse_pair
+fn pair(tokens: &[u16], pool: &mut [u32], first: usize, c: Cursor, less: usize) -> Read
+    requires { ⌜ Ready (now tokens) (now pool) first (c .at) ⌝ }
+    ensures { λ r. ⌜ Fresh one (spec.pair (now (tokens .entry)) (spec.expression (now (tokens .entry)) less)) (now (tokens .entry)) (c .at) first r (now (pool .entry)) (now (pool .exit)) ⌝ }
+{
+    let r = expression(tokens, pool, first, c, 0, less);
+    let Read::Tree(k, h, d) = r else {
+        return r;
+    };
+    let e = words::iterate(tokens, d);
+    if !words::next_symbol_is(tokens, d, Symbol::SColon) {
+        return Read::Refused(EXPECTED_COLON, d.at);
+    }
+    let q = behind(
+        tokens,
+        pool,
+        first,
+        k,
+        words::iterate(tokens, e),
+        0,
+        false,
+        less,
+    );
+    let Read::Tree(m, g, f) = q else {
+        return q;
+    };
+    put_row(pool, first, m, f, PAIR, 0, e.at, h, g, 0, 0)
+}
+
+// parse_hash_literal
+fn hash_literal(tokens: &[u16], pool: &mut [u32], first: usize, c: Cursor, less: usize) -> Read
+    requires { ⌜ Ready (now tokens) (now pool) first (c .at) ⌝ }
+    ensures { λ r. ⌜ Fresh one (spec.hash-literal (now (tokens .entry)) (spec.expression (now (tokens .entry)) less)) (now (tokens .entry)) (c .at) first r (now (pool .entry)) (now (pool .exit)) ⌝ }
+{
+    let d = words::iterate(tokens, c);
+    if words::next_symbol_is(tokens, c, Symbol::SRBrace) {
+        return put_row(pool, first, 0, d, HASH, 0, c.at, 0, 0, 0, 0);
+    }
+    let r = pair(tokens, pool, first, d, less);
+    let Read::Tree(k, h, e) = r else {
+        return r;
+    };
+    let q = entries(tokens, pool, first, k, h, e, true, less);
+    let Read::Tree(m, g, f) = q else {
+        return q;
+    };
+    closed(
+        tokens,
+        pool,
+        first,
+        m,
+        f,
+        Symbol::SRBrace,
+        HASH_NOT_TERMINATED,
+        HASH,
+        c.at,
+        g,
+        0,
+    )
+}
+
+// parse_array_expression
+fn array(tokens: &[u16], pool: &mut [u32], first: usize, c: Cursor, less: usize) -> Read
+    requires { ⌜ Ready (now tokens) (now pool) first (c .at) ⌝ }
+    ensures { λ r. ⌜ Fresh one (spec.array (now (tokens .entry)) (spec.expression (now (tokens .entry)) less)) (now (tokens .entry)) (c .at) first r (now (pool .entry)) (now (pool .exit)) ⌝ }
+{
+    if words::next_symbol_is(tokens, c, Symbol::SRBox) {
+        return put_row(
+            pool,
+            first,
+            0,
+            words::iterate(tokens, c),
+            ARRAY,
+            0,
+            c.at,
+            0,
+            0,
+            0,
+            0,
+        );
+    }
+    let r = list_expr(tokens, pool, first, c, less);
+    let Read::Tree(k, h, d) = r else {
+        return r;
+    };
+    closed(
+        tokens,
+        pool,
+        first,
+        k,
+        d,
+        Symbol::SRBox,
+        ARRAY_NOT_TERMINATED,
+        ARRAY,
+        c.at,
+        h,
+        0,
+    )
+}
+
+// parse_lambda_exp
+fn lambda(tokens: &[u16], pool: &mut [u32], first: usize, c: Cursor, less: usize) -> Read
+    requires { ⌜ Ready (now tokens) (now pool) first (c .at) ⌝ }
+    ensures { λ r. ⌜ Fresh one (spec.lambda (now (tokens .entry)) (spec.expression (now (tokens .entry)) less)) (now (tokens .entry)) (c .at) first r (now (pool .entry)) (now (pool .exit)) ⌝ }
+{
+    if words::next_symbol_is(tokens, c, Symbol::SSemiColon) {
+        return Read::Refused(INVALID_SYNTAX, c.at);
+    }
+    if words::next_symbol_is(tokens, c, Symbol::SImpl) {
+        return Read::Refused(NO_PARAMETERS, c.at);
+    }
+    let r = list_expr(tokens, pool, first, c, less);
+    let Read::Tree(k, h, d) = r else {
+        return r;
+    };
+    if !words::next_symbol_is(tokens, d, Symbol::SImpl) {
+        return Read::Refused(EXPECTED_ARROW, d.at);
+    }
+    let e = words::iterate(tokens, words::iterate(tokens, d));
+    let q = behind(tokens, pool, first, k, e, 0, false, less);
+    let Read::Tree(m, g, f) = q else {
+        return q;
+    };
+    put_row(pool, first, m, f, LAMBDA, 0, c.at, h, g, 0, 0)
+}
+
+// parse_thread_exp and parse_async_expr, by the flag that they set.
+fn started(
+    tokens: &[u16],
+    pool: &mut [u32],
+    first: usize,
+    c: Cursor,
+    flag: Flag,
+    less: usize,
+) -> Read
+    requires { ⌜ Ready (now tokens) (now pool) first (c .at) ⌝ }
+    ensures { λ r. ⌜ Fresh one (spec.started (now (tokens .entry)) (spec.expression (now (tokens .entry)) less) (bit flag)) (now (tokens .entry)) (c .at) first r (now (pool .entry)) (now (pool .exit)) ⌝ }
+{
+    let r = expression(tokens, pool, first, words::iterate(tokens, c), 0, less);
+    let Read::Tree(k, _, d) = r else {
+        return r;
+    };
+    if rows::kind(pool, k) != CALL {
+        return Read::Refused(NOT_CALLABLE, d.at);
+    }
+    rows::mark(pool, k, flag);
+    r
+}
+
+// parse_sub_expression
+fn sub_expression(tokens: &[u16], pool: &mut [u32], first: usize, c: Cursor, less: usize) -> Read
+    requires { ⌜ Ready (now tokens) (now pool) first (c .at) ⌝ }
+    ensures { λ r. ⌜ Fresh one (spec.sub-expression (now (tokens .entry)) (spec.expression (now (tokens .entry)) less)) (now (tokens .entry)) (c .at) first r (now (pool .entry)) (now (pool .exit)) ⌝ }
+{
+    let d = words::iterate(tokens, c);
+    if words::next_symbol_is(tokens, d, Symbol::SRparen) {
+        return Read::Refused(INVALID_SYNTAX, d.at);
+    }
+    let r = expression(tokens, pool, first, d, 0, less);
+    let Read::Tree(k, h, e) = r else {
+        return r;
+    };
+    if !words::next_symbol_is(tokens, e, Symbol::SRparen) {
+        return Read::Refused(INVALID_SYNTAX, e.at);
+    }
+    rows::mark(pool, k, Flag::Grouped);
+    Read::Tree(k, h, words::iterate(tokens, e))
+}
+
+// The loop of parse_expression, above an order and behind what stands in the first `rows` rows.
+fn climb(
+    tokens: &[u16],
+    pool: &mut [u32],
+    first: usize,
+    rows: usize,
+    head: u32,
+    c: Cursor,
+    order: usize,
+    less: usize,
+) -> Read
+    requires { ⌜ (Ready (now tokens) (now pool) first (c .at)) × (8 * rows ≤ length (now pool)) ⌝ }
+    ensures { λ r. ⌜ Follows (spec.climb (now (tokens .entry)) (spec.expression (now (tokens .entry)) less) order turns) (now (tokens .entry)) (c .at) first rows head r (now (pool .entry)) (now (pool .exit)) ⌝ }
+{
+    let mut k = rows;
+    let mut h = head;
+    let mut d = c;
+    while words::goes_on(order, words::next(tokens, d)) {
+        let r = operation(tokens, pool, first, k, h, words::iterate(tokens, d), less);
+        let Read::Tree(m, g, e) = r else {
+            return r;
+        };
+        k = m;
+        h = g;
+        d = e;
+    }
+    Read::Tree(k, h, d)
+}
+
+// What an operator does behind its left side: the branches in the loop of parse_expression.
+fn operation(
+    tokens: &[u16],
+    pool: &mut [u32],
+    first: usize,
+    rows: usize,
+    head: u32,
+    c: Cursor,
+    less: usize,
+) -> Read
+    requires { ⌜ (Ready (now tokens) (now pool) first (c .at)) × (8 * rows ≤ length (now pool)) ⌝ }
+    ensures { λ r. ⌜ Follows (spec.operation (now (tokens .entry)) (spec.expression (now (tokens .entry)) less)) (now (tokens .entry)) (c .at) first rows head r (now (pool .entry)) (now (pool .exit)) ⌝ }
+{
+    let t = words::current(tokens, c);
+    let Token::Operator(s) = t else {
+        return infix_expression(tokens, pool, first, rows, head, c, less);
+    };
+    match s {
+        Symbol::SIncr => put_row(pool, first, rows, c, SUFFIX, 0, c.at, head, 0, 0, 0),
+        Symbol::SDecr => put_row(pool, first, rows, c, SUFFIX, 1, c.at, head, 0, 0, 0),
+        Symbol::SLParen => call(tokens, pool, first, rows, head, c, less),
+        Symbol::SLBox => index(tokens, pool, first, rows, head, c, less),
+        _ => infix_expression(tokens, pool, first, rows, head, c, less),
+    }
+}
+
+// parse_infix_expression
+fn infix_expression(
+    tokens: &[u16],
+    pool: &mut [u32],
+    first: usize,
+    rows: usize,
+    head: u32,
+    c: Cursor,
+    less: usize,
+) -> Read
+    requires { ⌜ (Ready (now tokens) (now pool) first (c .at)) × (8 * rows ≤ length (now pool)) ⌝ }
+    ensures { λ r. ⌜ Follows (spec.infix-expression (now (tokens .entry)) (spec.expression (now (tokens .entry)) less)) (now (tokens .entry)) (c .at) first rows head r (now (pool .entry)) (now (pool .exit)) ⌝ }
+{
+    let t = words::current(tokens, c);
+    let d = words::iterate(tokens, c);
+    let r = behind(
+        tokens,
+        pool,
+        first,
+        rows,
+        d,
+        words::order_of(t),
+        false,
+        less,
+    );
+    let Read::Tree(k, h, e) = r else {
+        return r;
+    };
+    put_row(
+        pool,
+        first,
+        k,
+        e,
+        INFIX,
+        words::infix_mark(t),
+        c.at,
+        head,
+        h,
+        0,
+        0,
+    )
+}
+
+// A list behind the first `rows` rows of the part.
+fn list_behind(
+    tokens: &[u16],
+    pool: &mut [u32],
+    first: usize,
+    rows: usize,
+    c: Cursor,
+    less: usize,
+) -> Read
+    requires { ⌜ (Ready (now tokens) (now pool) first (c .at)) × (8 * rows ≤ length (now pool)) ⌝ }
+    ensures { λ r. ⌜ Behind many (spec.list-expr (now (tokens .entry)) (spec.expression (now (tokens .entry)) less)) (now (tokens .entry)) (c .at) first rows r (now (pool .entry)) (now (pool .exit)) ⌝ }
+{
+    let i = 8 * rows;
+    let r = list_expr(tokens, &mut pool[i..], first + rows, c, less);
+    let Read::Tree(k, h, d) = r else {
+        return r;
+    };
+    Read::Tree(rows + k, h, d)
+}
+
+// parse_call_expression: with arguments any token closes it.
+fn call(
+    tokens: &[u16],
+    pool: &mut [u32],
+    first: usize,
+    rows: usize,
+    head: u32,
+    c: Cursor,
+    less: usize,
+) -> Read
+    requires { ⌜ (Ready (now tokens) (now pool) first (c .at)) × (8 * rows ≤ length (now pool)) ⌝ }
+    ensures { λ r. ⌜ Follows (spec.call (now (tokens .entry)) (spec.expression (now (tokens .entry)) less)) (now (tokens .entry)) (c .at) first rows head r (now (pool .entry)) (now (pool .exit)) ⌝ }
+{
+    if words::next_symbol_is(tokens, c, Symbol::SRparen) {
+        let d = words::iterate(tokens, c);
+        return put_row(pool, first, rows, d, CALL, 0, c.at, head, 0, 0, 0);
+    }
+    let r = list_behind(tokens, pool, first, rows, c, less);
+    let Read::Tree(k, h, e) = r else {
+        return r;
+    };
+    let f = words::iterate(tokens, e);
+    put_row(pool, first, k, f, CALL, 0, c.at, head, h, 0, 0)
+}
+
+// parse_index_expression
+fn index(
+    tokens: &[u16],
+    pool: &mut [u32],
+    first: usize,
+    rows: usize,
+    head: u32,
+    c: Cursor,
+    less: usize,
+) -> Read
+    requires { ⌜ (Ready (now tokens) (now pool) first (c .at)) × (8 * rows ≤ length (now pool)) ⌝ }
+    ensures { λ r. ⌜ Follows (spec.index (now (tokens .entry)) (spec.expression (now (tokens .entry)) less)) (now (tokens .entry)) (c .at) first rows head r (now (pool .entry)) (now (pool .exit)) ⌝ }
+{
+    let r = behind(
+        tokens,
+        pool,
+        first,
+        rows,
+        words::iterate(tokens, c),
+        0,
+        false,
+        less,
+    );
+    let Read::Tree(k, h, d) = r else {
+        return r;
+    };
+    closed(
+        tokens,
+        pool,
+        first,
+        k,
+        d,
+        Symbol::SRBox,
+        INVALID_SYNTAX,
+        INDEX,
+        c.at,
+        head,
+        h,
+    )
+}

@@ -1,0 +1,108 @@
+// What a reader answers, and the rows that readers end with.
+use rows::Built;
+use rows::Row;
+use words::Cursor;
+use words::Symbol;
+ghost use mathlib.Core.Path.{_≡_};
+ghost use Prim.Native.Nat.{ℕ, _+_, _*_, _/_, _≤_, _<_};
+ghost use mathlib.Core.Bool.{cond};
+ghost use mathlib.Core.List.{List};
+ghost use lib.Dec.{eqb};
+ghost use lib.ListN.{length};
+ghost use Rattle.grammar.specs.Tree as tree;
+ghost use Rattle.grammar.specs.Parsed.{build};
+ghost use Rattle.words.specs.Tokens.{word};
+ghost use Rattle.words.specs.declared.tokens.Token.the-variants as token;
+ghost use Rattle.parser.specs.Meets.{Ready, one};
+ghost use Rattle.parser.specs.Contracts.{Fresh, Ends};
+ghost use Rattle.parser.specs.Contracts as contract;
+
+// How many rows of its part a reader has filled, the reference of what it read (of a list its first, 0 for none) and the next cursor;
+// or a refusal, by its number and place.
+pub enum Read {
+    Tree(usize, u32, Cursor),
+    Refused(u32, usize),
+}
+
+// A row behind the first `rows` rows of a part, before which the pool has `first` rows.
+pub fn put_row(
+    pool: &mut [u32],
+    first: usize,
+    rows: usize,
+    c: Cursor,
+    kind: u32,
+    mark: u32,
+    place: usize,
+    c0: u32,
+    c1: u32,
+    c2: u32,
+    c3: u32,
+) -> Read
+    requires { ⌜ (8 * first + length (now pool) ≤ 524280) × (place < 65536) ⌝ }
+    ensures { λ r. ⌜ ((ts : List ℕ) → c .at < length ts → Ends build ts (c .at) first rows kind mark place c0 c1 c2 c3 r (now (pool .entry)) (now (pool .exit))) ⌝ }
+{
+    let row = Row {
+        kind: kind,
+        mark: mark,
+        place: place as u32,
+        c0: c0,
+        c1: c1,
+        c2: c2,
+        c3: c3,
+    };
+    let b = rows::build(pool, rows, row, c.at);
+    match b {
+        Built::Rows(k) => Read::Tree(k, (first + k) as u32, c),
+        Built::Refused(n, p) => Read::Refused(n, p),
+    }
+}
+
+// A row without children, at the current token.
+pub fn leaf(pool: &mut [u32], first: usize, c: Cursor, kind: u32, mark: u32) -> Read
+    requires { ⌜ (8 * first + length (now pool) ≤ 524280) × (c .at < 65536) ⌝ }
+    ensures { λ r. ⌜ ((ts : List ℕ) → c .at < length ts → Fresh one (λ at. build (tree.leaf kind mark at) at) ts (c .at) first r (now (pool .entry)) (now (pool .exit))) ⌝ }
+{
+    put_row(pool, first, 0, c, kind, mark, c.at, 0, 0, 0, 0)
+}
+
+// A row whose closing sign comes next, or else the refusal `number`.
+pub fn closed(
+    tokens: &[u16],
+    pool: &mut [u32],
+    first: usize,
+    rows: usize,
+    c: Cursor,
+    close: Symbol,
+    number: u32,
+    kind: u32,
+    place: usize,
+    c0: u32,
+    c1: u32,
+) -> Read
+    requires { ⌜ (Ready (now tokens) (now pool) first (c .at)) × (place < 65536) ⌝ }
+    ensures { λ r. ⌜ Ends (contract.closed (now (tokens .entry)) (word (token.Operator close)) number) (now (tokens .entry)) (c .at) first rows kind 0 place c0 c1 0 0 r (now (pool .entry)) (now (pool .exit)) ⌝ }
+{
+    if words::next_symbol_is(tokens, c, close) {
+        return put_row(
+            pool,
+            first,
+            rows,
+            words::iterate(tokens, c),
+            kind,
+            0,
+            place,
+            c0,
+            c1,
+            0,
+            0,
+        );
+    }
+    Read::Refused(number, c.at)
+}
+
+// The reference of a list's first member, once another is behind the first `rows` rows.
+pub fn first_of(rows: usize, head: u32, next: u32) -> u32
+    ensures { λ r. ⌜ r ≡ cond (eqb rows 0) next head ⌝ }
+{
+    if rows == 0 { next } else { head }
+}

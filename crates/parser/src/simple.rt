@@ -1,0 +1,157 @@
+// The statements that hold expressions alone.
+use super::expressions::around;
+use super::expressions::behind;
+use super::expressions::expression;
+use super::names::*;
+use super::part::Read;
+use super::part::put_row;
+use words::Cursor;
+use words::Symbol;
+use words::Token;
+ghost use mathlib.Core.Path.{_≡_};
+ghost use Prim.Native.Nat.{ℕ, _*_, _≤_, _<_};
+ghost use lib.ListN.{length};
+ghost use Rattle.grammar.specs.Words.{tok, step};
+ghost use Rattle.grammar.specs.Tree.{node, nil};
+ghost use Rattle.grammar.specs.Parsed.{turns};
+ghost use Rattle.grammar.specs.Expressions.{expression};
+ghost use Rattle.grammar.specs.Statements as spec;
+ghost use Rattle.words.specs.Tokens.{word};
+ghost use Rattle.words.specs.declared.tokens.Token.the-variants as token;
+ghost use Rattle.parser.specs.Meets.{Ready, one, many};
+ghost use Rattle.parser.specs.Contracts.{Fresh, Behind, Extends, Begun, further};
+ghost use Rattle.parser.specs.Contracts as contract;
+
+// A sign that comes next, or else the refusal `number`; and the expression after it, behind the first `rows` rows of the part.
+pub fn behind_sign(
+    tokens: &[u16],
+    pool: &mut [u32],
+    first: usize,
+    rows: usize,
+    c: Cursor,
+    sign: Token,
+    number: u32,
+    less: usize,
+) -> Read
+    requires { ⌜ (Ready (now tokens) (now pool) first (c .at)) × (8 * rows ≤ length (now pool)) ⌝ }
+    ensures { λ r. ⌜ Behind one (contract.behind-sign (now (tokens .entry)) (expression (now (tokens .entry)) less) (word sign) number) (now (tokens .entry)) (c .at) first rows r (now (pool .entry)) (now (pool .exit)) ⌝ }
+{
+    if !words::next_is(tokens, c, sign) {
+        return Read::Refused(number, c.at);
+    }
+    let d = words::iterate(tokens, words::iterate(tokens, c));
+    behind(tokens, pool, first, rows, d, 0, false, less)
+}
+
+// parse_assert_statement
+pub fn assert_statement(
+    tokens: &[u16],
+    pool: &mut [u32],
+    first: usize,
+    c: Cursor,
+    less: usize,
+) -> Read
+    requires { ⌜ Ready (now tokens) (now pool) first (c .at) ⌝ }
+    ensures { λ r. ⌜ Fresh one (spec.assert (now (tokens .entry)) (expression (now (tokens .entry)) less) (spec.statement (now (tokens .entry)) less)) (now (tokens .entry)) (c .at) first r (now (pool .entry)) (now (pool .exit)) ⌝ }
+{
+    let r = expression(tokens, pool, first, words::iterate(tokens, c), 0, less);
+    let Read::Tree(k, h, d) = r else {
+        return r;
+    };
+    if words::next_symbol_is(tokens, d, Symbol::SSemiColon) {
+        let e = words::iterate(tokens, d);
+        return Read::Refused(ASSERT_WITHOUT_ACTION, e.at);
+    }
+    let comma = Token::Operator(Symbol::SComma);
+    let q = behind_sign(tokens, pool, first, k, d, comma, ASSERT_WITHOUT_COMMA, less);
+    let Read::Tree(m, g, f) = q else {
+        return q;
+    };
+    put_row(pool, first, m, f, ASSERT, 0, c.at, h, g, 0, 0)
+}
+
+// The value of parse_var_or_const, behind the name.
+fn value(tokens: &[u16], pool: &mut [u32], first: usize, c: Cursor, kind: u32, less: usize) -> Read
+    requires { ⌜ Ready (now tokens) (now pool) first (c .at) ⌝ }
+    ensures { λ r. ⌜ Fresh one (λ at. spec.value (now (tokens .entry)) (expression (now (tokens .entry)) less) (spec.statement (now (tokens .entry)) less) (λ v. node kind 0 at v nil nil nil) (step (now (tokens .entry)) at)) (now (tokens .entry)) (c .at) first r (now (pool .entry)) (now (pool .exit)) ⌝ }
+{
+    let d = words::iterate(tokens, c);
+    if !words::current_symbol_is(tokens, d, Symbol::SEq) {
+        return Read::Refused(EXPECTED_EQ, d.at);
+    }
+    around(
+        tokens,
+        pool,
+        first,
+        words::iterate(tokens, d),
+        kind,
+        0,
+        c.at,
+        less,
+    )
+}
+
+// parse_var_or_const for var, at the name.
+pub fn var_statement(tokens: &[u16], pool: &mut [u32], first: usize, c: Cursor, less: usize) -> Read
+    requires { ⌜ Ready (now tokens) (now pool) first (c .at) ⌝ }
+    ensures { λ r. ⌜ Fresh one (spec.var (now (tokens .entry)) (expression (now (tokens .entry)) less) (spec.statement (now (tokens .entry)) less)) (now (tokens .entry)) (c .at) first r (now (pool .entry)) (now (pool .exit)) ⌝ }
+{
+    if !words::is_identifier(tokens, c) {
+        return Read::Refused(INVALID_IDENTIFIER, c.at);
+    }
+    if words::next_symbol_is(tokens, c, Symbol::SSemiColon) {
+        return put_row(
+            pool,
+            first,
+            0,
+            words::iterate(tokens, c),
+            VAR,
+            0,
+            c.at,
+            0,
+            0,
+            0,
+            0,
+        );
+    }
+    value(tokens, pool, first, c, VAR, less)
+}
+
+// parse_var_or_const for const, at the name.
+pub fn const_statement(
+    tokens: &[u16],
+    pool: &mut [u32],
+    first: usize,
+    c: Cursor,
+    less: usize,
+) -> Read
+    requires { ⌜ Ready (now tokens) (now pool) first (c .at) ⌝ }
+    ensures { λ r. ⌜ Fresh one (spec.const (now (tokens .entry)) (expression (now (tokens .entry)) less) (spec.statement (now (tokens .entry)) less)) (now (tokens .entry)) (c .at) first r (now (pool .entry)) (now (pool .exit)) ⌝ }
+{
+    if !words::is_identifier(tokens, c) {
+        return Read::Refused(INVALID_IDENTIFIER, c.at);
+    }
+    if words::next_symbol_is(tokens, c, Symbol::SSemiColon) {
+        let d = words::iterate(tokens, c);
+        return Read::Refused(CONST_WITHOUT_VALUE, d.at);
+    }
+    value(tokens, pool, first, c, CONST, less)
+}
+
+// parse_return_statement
+pub fn return_statement(
+    tokens: &[u16],
+    pool: &mut [u32],
+    first: usize,
+    c: Cursor,
+    less: usize,
+) -> Read
+    requires { ⌜ Ready (now tokens) (now pool) first (c .at) ⌝ }
+    ensures { λ r. ⌜ Fresh one (spec.return (now (tokens .entry)) (expression (now (tokens .entry)) less) (spec.statement (now (tokens .entry)) less)) (now (tokens .entry)) (c .at) first r (now (pool .entry)) (now (pool .exit)) ⌝ }
+{
+    let d = words::iterate(tokens, c);
+    if words::next_symbol_is(tokens, c, Symbol::SSemiColon) {
+        return put_row(pool, first, 0, d, RETURN, 0, c.at, 0, 0, 0, 0);
+    }
+    around(tokens, pool, first, d, RETURN, 0, c.at, less)
+}

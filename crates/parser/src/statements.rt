@@ -1,0 +1,497 @@
+// The readers of statements and blocks: one cycle, each named after the original's function.
+use super::expressions::around;
+use super::expressions::expression;
+use super::expressions::list_expr;
+use super::names::*;
+use super::part::Read;
+use super::part::closed;
+use super::part::first_of;
+use super::part::put_row;
+use super::simple::assert_statement;
+use super::simple::behind_sign;
+use super::simple::const_statement;
+use super::simple::return_statement;
+use super::simple::var_statement;
+use words::Cursor;
+use words::Keyword;
+use words::Symbol;
+use words::Token;
+ghost use mathlib.Core.Path.{_≡_};
+ghost use Prim.Native.Nat.{ℕ, _*_, _≤_, _<_};
+ghost use lib.ListN.{length};
+ghost use Rattle.grammar.specs.Words.{tok, step};
+ghost use Rattle.grammar.specs.Tree.{node, nil};
+ghost use Rattle.grammar.specs.Parsed.{turns};
+ghost use Rattle.grammar.specs.Expressions.{expression};
+ghost use Rattle.grammar.specs.Statements as spec;
+ghost use Rattle.words.specs.Tokens.{word};
+ghost use Rattle.words.specs.declared.tokens.Token.the-variants as token;
+ghost use Rattle.parser.specs.Meets.{Ready, one, many};
+ghost use Rattle.parser.specs.Contracts.{Fresh, Behind, Extends, Begun, further};
+ghost use Rattle.parser.specs.Contracts as contract;
+
+// parse_statement, where `allow` more expressions and statements may be open.
+pub fn statement(tokens: &[u16], pool: &mut [u32], first: usize, c: Cursor, allow: usize) -> Read
+    requires { ⌜ Ready (now tokens) (now pool) first (c .at) ⌝ }
+    ensures { λ r. ⌜ Fresh many (spec.statement (now (tokens .entry)) allow) (now (tokens .entry)) (c .at) first r (now (pool .entry)) (now (pool .exit)) ⌝ }
+{
+    if allow == 0 {
+        return Read::Refused(TOO_DEEP, c.at);
+    }
+    let less = allow - 1;
+    let t = words::current(tokens, c);
+    match t {
+        Token::Empty => Read::Tree(0, 0, c),
+        Token::Keyword(k) => keyword_statement(tokens, pool, first, c, k, less),
+        _ => around(tokens, pool, first, c, EXPRESSION, 0, c.at, less),
+    }
+}
+
+// Whether a statement that begins with a keyword may not end right behind it.
+fn goes_further(k: Keyword) -> bool
+    ensures { λ r. ⌜ r ≡ further (word (token.Keyword k)) ⌝ }
+{
+    match k {
+        Keyword::KVar
+        | Keyword::KConst
+        | Keyword::KIf
+        | Keyword::KAssert
+        | Keyword::KWhile
+        | Keyword::KFunc
+        | Keyword::KFor
+        | Keyword::KThrow
+        | Keyword::KTry
+        | Keyword::KForEach => true,
+        _ => false,
+    }
+}
+
+// The statements that begin with a keyword.
+fn keyword_statement(
+    tokens: &[u16],
+    pool: &mut [u32],
+    first: usize,
+    c: Cursor,
+    k: Keyword,
+    less: usize,
+) -> Read
+    requires { ⌜ (Ready (now tokens) (now pool) first (c .at)) × (tok (now tokens) (c .at) ≡ word (token.Keyword k)) ⌝ }
+    ensures { λ r. ⌜ Fresh one (spec.kept (now (tokens .entry)) (expression (now (tokens .entry)) less) (spec.statement (now (tokens .entry)) less)) (now (tokens .entry)) (c .at) first r (now (pool .entry)) (now (pool .exit)) ⌝ }
+{
+    let d = words::iterate(tokens, c);
+    if goes_further(k) {
+        if words::next_symbol_is(tokens, c, Symbol::SSemiColon) {
+            return Read::Refused(INVALID_SYNTAX, d.at);
+        }
+    }
+    let semicolon = Symbol::SSemiColon;
+    match k {
+        Keyword::KBreak => closed(
+            tokens,
+            pool,
+            first,
+            0,
+            c,
+            semicolon,
+            BREAK_WITHOUT_SEMICOLON,
+            BREAK,
+            c.at,
+            0,
+            0,
+        ),
+        Keyword::KContinue => closed(
+            tokens,
+            pool,
+            first,
+            0,
+            c,
+            semicolon,
+            CONTINUE_WITHOUT_SEMICOLON,
+            CONTINUE,
+            c.at,
+            0,
+            0,
+        ),
+        Keyword::KVar => var_statement(tokens, pool, first, d, less),
+        Keyword::KConst => const_statement(tokens, pool, first, d, less),
+        Keyword::KIf => if_statement(tokens, pool, first, c, less),
+        Keyword::KAssert => assert_statement(tokens, pool, first, c, less),
+        Keyword::KWhile => while_statement(tokens, pool, first, c, less),
+        Keyword::KReturn => return_statement(tokens, pool, first, c, less),
+        Keyword::KFunc => function(tokens, pool, first, d, less),
+        Keyword::KFor => for_loop(tokens, pool, first, c, less),
+        Keyword::KThrow => around(tokens, pool, first, d, THROW, 0, c.at, less),
+        Keyword::KTry => try_statement(tokens, pool, first, c, less),
+        Keyword::KForEach => for_each(tokens, pool, first, c, less),
+        _ => around(tokens, pool, first, c, EXPRESSION, 0, c.at, less),
+    }
+}
+
+// Statements up to the token `close`, behind those that stand in the first `rows` rows: the loop of parse_block_statement, and of a whole script.
+pub fn statements(
+    tokens: &[u16],
+    pool: &mut [u32],
+    first: usize,
+    rows: usize,
+    head: u32,
+    c: Cursor,
+    close: Token,
+    allow: usize,
+) -> Read
+    requires { ⌜ (Ready (now tokens) (now pool) first (c .at)) × (8 * rows ≤ length (now pool)) ⌝ }
+    ensures { λ r. ⌜ Extends (spec.statements (now (tokens .entry)) (expression (now (tokens .entry)) allow) (spec.statement (now (tokens .entry)) allow) (word close) turns) (now (tokens .entry)) (c .at) first rows head r (now (pool .entry)) (now (pool .exit)) ⌝ }
+{
+    let mut k = rows;
+    let mut h = head;
+    let mut d = c;
+    while !words::current_is(tokens, d, close) {
+        if words::current_symbol_is(tokens, d, Symbol::SSemiColon) {
+            d = words::iterate(tokens, d);
+        } else {
+            let r = statement_behind(tokens, pool, first, k, d, allow);
+            let Read::Tree(m, g, e) = r else {
+                return r;
+            };
+            rows::link(pool, k, g);
+            h = first_of(k, h, g);
+            k = m;
+            d = words::iterate(tokens, e);
+        }
+    }
+    Read::Tree(k, h, d)
+}
+
+// A statement behind the first `rows` rows of the part.
+fn statement_behind(
+    tokens: &[u16],
+    pool: &mut [u32],
+    first: usize,
+    rows: usize,
+    c: Cursor,
+    allow: usize,
+) -> Read
+    requires { ⌜ (Ready (now tokens) (now pool) first (c .at)) × (8 * rows ≤ length (now pool)) ⌝ }
+    ensures { λ r. ⌜ (Begun (now (tokens .entry)) (c .at) r) × (Behind many (spec.statement (now (tokens .entry)) allow) (now (tokens .entry)) (c .at) first rows r (now (pool .entry)) (now (pool .exit))) ⌝ }
+{
+    let i = 8 * rows;
+    let r = statement(tokens, &mut pool[i..], first + rows, c, allow);
+    let Read::Tree(k, h, d) = r else {
+        return r;
+    };
+    Read::Tree(rows + k, h, d)
+}
+
+// parse_block_statement, whose opener comes next and may be any token.
+fn block(tokens: &[u16], pool: &mut [u32], first: usize, c: Cursor, less: usize) -> Read
+    requires { ⌜ Ready (now tokens) (now pool) first (c .at) ⌝ }
+    ensures { λ r. ⌜ Fresh one (spec.block (now (tokens .entry)) (expression (now (tokens .entry)) less) (spec.statement (now (tokens .entry)) less)) (now (tokens .entry)) (c .at) first r (now (pool .entry)) (now (pool .exit)) ⌝ }
+{
+    let d = words::iterate(tokens, c);
+    let e = words::iterate(tokens, d);
+    if words::next_symbol_is(tokens, d, Symbol::SRBrace) {
+        return put_row(pool, first, 0, e, BLOCK, 0, d.at, 0, 0, 0, 0);
+    }
+    let r = statement(tokens, pool, first, e, less);
+    let Read::Tree(k, h, f) = r else {
+        return r;
+    };
+    let g = words::iterate(tokens, f);
+    let brace = Token::Operator(Symbol::SRBrace);
+    let q = statements(tokens, pool, first, k, h, g, brace, less);
+    let Read::Tree(m, i, j) = q else {
+        return q;
+    };
+    put_row(pool, first, m, j, BLOCK, 0, d.at, i, 0, 0, 0)
+}
+
+// A block behind the first `rows` rows of the part.
+fn block_behind(
+    tokens: &[u16],
+    pool: &mut [u32],
+    first: usize,
+    rows: usize,
+    c: Cursor,
+    less: usize,
+) -> Read
+    requires { ⌜ (Ready (now tokens) (now pool) first (c .at)) × (8 * rows ≤ length (now pool)) ⌝ }
+    ensures { λ r. ⌜ Behind one (spec.block (now (tokens .entry)) (expression (now (tokens .entry)) less) (spec.statement (now (tokens .entry)) less)) (now (tokens .entry)) (c .at) first rows r (now (pool .entry)) (now (pool .exit)) ⌝ }
+{
+    let i = 8 * rows;
+    let r = block(tokens, &mut pool[i..], first + rows, c, less);
+    let Read::Tree(k, h, d) = r else {
+        return r;
+    };
+    Read::Tree(rows + k, h, d)
+}
+
+// A sign and an opening brace that come next, or else the refusals `missing` and `bare`; and the block, behind the first `rows` rows of the part.
+fn body(
+    tokens: &[u16],
+    pool: &mut [u32],
+    first: usize,
+    rows: usize,
+    c: Cursor,
+    sign: Symbol,
+    missing: u32,
+    bare: u32,
+    less: usize,
+) -> Read
+    requires { ⌜ (Ready (now tokens) (now pool) first (c .at)) × (8 * rows ≤ length (now pool)) ⌝ }
+    ensures { λ r. ⌜ Behind one (contract.body (now (tokens .entry)) (spec.block (now (tokens .entry)) (expression (now (tokens .entry)) less) (spec.statement (now (tokens .entry)) less)) (word (token.Operator sign)) missing bare) (now (tokens .entry)) (c .at) first rows r (now (pool .entry)) (now (pool .exit)) ⌝ }
+{
+    if !words::next_symbol_is(tokens, c, sign) {
+        return Read::Refused(missing, c.at);
+    }
+    let d = words::iterate(tokens, c);
+    if !words::next_symbol_is(tokens, d, Symbol::SLBrace) {
+        return Read::Refused(bare, d.at);
+    }
+    block_behind(tokens, pool, first, rows, d, less)
+}
+
+// parse_function_statement behind `func`, at the name.
+fn function(tokens: &[u16], pool: &mut [u32], first: usize, c: Cursor, less: usize) -> Read
+    requires { ⌜ Ready (now tokens) (now pool) first (c .at) ⌝ }
+    ensures { λ r. ⌜ Fresh one (spec.function (now (tokens .entry)) (expression (now (tokens .entry)) less) (spec.statement (now (tokens .entry)) less)) (now (tokens .entry)) (c .at) first r (now (pool .entry)) (now (pool .exit)) ⌝ }
+{
+    if !words::is_identifier(tokens, c) {
+        return Read::Refused(FUNC_WITHOUT_NAME, c.at);
+    }
+    if !words::next_symbol_is(tokens, c, Symbol::SLParen) {
+        return Read::Refused(INVALID_SYNTAX, c.at);
+    }
+    let r = list_expr(tokens, pool, first, words::iterate(tokens, c), less);
+    let Read::Tree(k, h, d) = r else {
+        return r;
+    };
+    let paren = Symbol::SRparen;
+    let q = body(
+        tokens,
+        pool,
+        first,
+        k,
+        d,
+        paren,
+        INVALID_SYNTAX,
+        INVALID_SYNTAX,
+        less,
+    );
+    let Read::Tree(m, g, f) = q else {
+        return q;
+    };
+    put_row(pool, first, m, f, FUNCTION, 0, c.at, h, g, 0, 0)
+}
+
+// parse_if_statement
+fn if_statement(tokens: &[u16], pool: &mut [u32], first: usize, c: Cursor, less: usize) -> Read
+    requires { ⌜ Ready (now tokens) (now pool) first (c .at) ⌝ }
+    ensures { λ r. ⌜ Fresh one (spec.if (now (tokens .entry)) (expression (now (tokens .entry)) less) (spec.statement (now (tokens .entry)) less)) (now (tokens .entry)) (c .at) first r (now (pool .entry)) (now (pool .exit)) ⌝ }
+{
+    let d = words::iterate(tokens, c);
+    if !words::next_symbol_is(tokens, c, Symbol::SLParen) {
+        return Read::Refused(INVALID_SYNTAX, d.at);
+    }
+    let r = expression(tokens, pool, first, words::iterate(tokens, d), 0, less);
+    let Read::Tree(k0, h0, e0) = r else {
+        return r;
+    };
+    let paren = Symbol::SRparen;
+    let r1 = body(
+        tokens,
+        pool,
+        first,
+        k0,
+        e0,
+        paren,
+        INVALID_TOKEN,
+        IF_WITHOUT_BODY,
+        less,
+    );
+    let Read::Tree(k1, h1, e1) = r1 else {
+        return r1;
+    };
+    let r2 = else_block(tokens, pool, first, k1, e1, less);
+    let Read::Tree(k2, h2, e2) = r2 else {
+        return r2;
+    };
+    put_row(pool, first, k2, e2, IF, 0, c.at, h0, h1, h2, 0)
+}
+
+// The end of parse_if_statement: the block of an else, or none.
+fn else_block(
+    tokens: &[u16],
+    pool: &mut [u32],
+    first: usize,
+    rows: usize,
+    c: Cursor,
+    less: usize,
+) -> Read
+    requires { ⌜ (Ready (now tokens) (now pool) first (c .at)) × (8 * rows ≤ length (now pool)) ⌝ }
+    ensures { λ r. ⌜ Behind many (spec.else (now (tokens .entry)) (expression (now (tokens .entry)) less) (spec.statement (now (tokens .entry)) less)) (now (tokens .entry)) (c .at) first rows r (now (pool .entry)) (now (pool .exit)) ⌝ }
+{
+    if !words::next_keyword_is(tokens, c, Keyword::KElse) {
+        return Read::Tree(rows, 0, c);
+    }
+    let d = words::iterate(tokens, c);
+    if !words::next_symbol_is(tokens, d, Symbol::SLBrace) {
+        return Read::Refused(INVALID_SYNTAX, d.at);
+    }
+    block_behind(tokens, pool, first, rows, d, less)
+}
+
+// parse_while_statement
+fn while_statement(tokens: &[u16], pool: &mut [u32], first: usize, c: Cursor, less: usize) -> Read
+    requires { ⌜ Ready (now tokens) (now pool) first (c .at) ⌝ }
+    ensures { λ r. ⌜ Fresh one (spec.while (now (tokens .entry)) (expression (now (tokens .entry)) less) (spec.statement (now (tokens .entry)) less)) (now (tokens .entry)) (c .at) first r (now (pool .entry)) (now (pool .exit)) ⌝ }
+{
+    if !words::next_symbol_is(tokens, c, Symbol::SLParen) {
+        return Read::Refused(INVALID_SYNTAX, c.at);
+    }
+    let d = words::iterate(tokens, words::iterate(tokens, c));
+    let r = expression(tokens, pool, first, d, 0, less);
+    let Read::Tree(k, h, e) = r else {
+        return r;
+    };
+    let q = open_body(tokens, pool, first, k, e, Symbol::SRparen, less);
+    let Read::Tree(m, g, f) = q else {
+        return q;
+    };
+    put_row(pool, first, m, f, WHILE, 0, c.at, h, g, 0, 0)
+}
+
+// A sign that comes next, and the block after it, whose opener may be any token.
+fn open_body(
+    tokens: &[u16],
+    pool: &mut [u32],
+    first: usize,
+    rows: usize,
+    c: Cursor,
+    sign: Symbol,
+    less: usize,
+) -> Read
+    requires { ⌜ (Ready (now tokens) (now pool) first (c .at)) × (8 * rows ≤ length (now pool)) ⌝ }
+    ensures { λ r. ⌜ Behind one (contract.open-body (now (tokens .entry)) (spec.block (now (tokens .entry)) (expression (now (tokens .entry)) less) (spec.statement (now (tokens .entry)) less)) (word (token.Operator sign))) (now (tokens .entry)) (c .at) first rows r (now (pool .entry)) (now (pool .exit)) ⌝ }
+{
+    if !words::next_symbol_is(tokens, c, sign) {
+        return Read::Refused(INVALID_SYNTAX, c.at);
+    }
+    block_behind(tokens, pool, first, rows, words::iterate(tokens, c), less)
+}
+
+// parse_for_each_statement
+fn for_each(tokens: &[u16], pool: &mut [u32], first: usize, c: Cursor, less: usize) -> Read
+    requires { ⌜ Ready (now tokens) (now pool) first (c .at) ⌝ }
+    ensures { λ r. ⌜ Fresh one (spec.foreach (now (tokens .entry)) (expression (now (tokens .entry)) less) (spec.statement (now (tokens .entry)) less)) (now (tokens .entry)) (c .at) first r (now (pool .entry)) (now (pool .exit)) ⌝ }
+{
+    let r0 = expression(tokens, pool, first, words::iterate(tokens, c), 0, less);
+    let Read::Tree(k0, h0, e0) = r0 else {
+        return r0;
+    };
+    let comma = Token::Operator(Symbol::SComma);
+    let r1 = behind_sign(tokens, pool, first, k0, e0, comma, INVALID_SYNTAX, less);
+    let Read::Tree(k1, h1, e1) = r1 else {
+        return r1;
+    };
+    let r2 = behind_sign(tokens, pool, first, k1, e1, comma, INVALID_SYNTAX, less);
+    let Read::Tree(k2, h2, e2) = r2 else {
+        return r2;
+    };
+    let r3 = open_body(tokens, pool, first, k2, e2, Symbol::SImpl, less);
+    let Read::Tree(k3, h3, e3) = r3 else {
+        return r3;
+    };
+    put_row(pool, first, k3, e3, FOREACH, 0, c.at, h0, h1, h2, h3)
+}
+
+// parse_for_loop_statement
+fn for_loop(tokens: &[u16], pool: &mut [u32], first: usize, c: Cursor, less: usize) -> Read
+    requires { ⌜ Ready (now tokens) (now pool) first (c .at) ⌝ }
+    ensures { λ r. ⌜ Fresh one (spec.for (now (tokens .entry)) (expression (now (tokens .entry)) less) (spec.statement (now (tokens .entry)) less)) (now (tokens .entry)) (c .at) first r (now (pool .entry)) (now (pool .exit)) ⌝ }
+{
+    let r0 = expression(tokens, pool, first, words::iterate(tokens, c), 0, less);
+    let Read::Tree(k0, h0, e0) = r0 else {
+        return r0;
+    };
+    let within = Token::Keyword(Keyword::KIn);
+    let r1 = behind_sign(tokens, pool, first, k0, e0, within, INVALID_SYNTAX, less);
+    let Read::Tree(k1, h1, e1) = r1 else {
+        return r1;
+    };
+    let arrow = Symbol::SImpl;
+    let r2 = body(
+        tokens,
+        pool,
+        first,
+        k1,
+        e1,
+        arrow,
+        INVALID_SYNTAX,
+        INVALID_SYNTAX,
+        less,
+    );
+    let Read::Tree(k2, h2, e2) = r2 else {
+        return r2;
+    };
+    put_row(pool, first, k2, e2, FOR, 0, c.at, h0, h1, h2, 0)
+}
+
+// The end of parse_try_statement: the block of a finally, or none.
+fn finally_block(
+    tokens: &[u16],
+    pool: &mut [u32],
+    first: usize,
+    rows: usize,
+    c: Cursor,
+    less: usize,
+) -> Read
+    requires { ⌜ (Ready (now tokens) (now pool) first (c .at)) × (8 * rows ≤ length (now pool)) ⌝ }
+    ensures { λ r. ⌜ Behind many (spec.finally (now (tokens .entry)) (expression (now (tokens .entry)) less) (spec.statement (now (tokens .entry)) less)) (now (tokens .entry)) (c .at) first rows r (now (pool .entry)) (now (pool .exit)) ⌝ }
+{
+    if !words::next_keyword_is(tokens, c, Keyword::KFinally) {
+        return Read::Tree(rows, 0, c);
+    }
+    block_behind(tokens, pool, first, rows, words::iterate(tokens, c), less)
+}
+
+// The catch of parse_try_statement: an opening brace that comes next, and its block.
+fn catch_block(
+    tokens: &[u16],
+    pool: &mut [u32],
+    first: usize,
+    rows: usize,
+    c: Cursor,
+    less: usize,
+) -> Read
+    requires { ⌜ (Ready (now tokens) (now pool) first (c .at)) × (8 * rows ≤ length (now pool)) ⌝ }
+    ensures { λ r. ⌜ Behind one (contract.braced (now (tokens .entry)) (spec.block (now (tokens .entry)) (expression (now (tokens .entry)) less) (spec.statement (now (tokens .entry)) less))) (now (tokens .entry)) (c .at) first rows r (now (pool .entry)) (now (pool .exit)) ⌝ }
+{
+    if !words::next_symbol_is(tokens, c, Symbol::SLBrace) {
+        return Read::Refused(INVALID_SYNTAX, c.at);
+    }
+    block_behind(tokens, pool, first, rows, c, less)
+}
+
+// parse_try_statement
+fn try_statement(tokens: &[u16], pool: &mut [u32], first: usize, c: Cursor, less: usize) -> Read
+    requires { ⌜ Ready (now tokens) (now pool) first (c .at) ⌝ }
+    ensures { λ r. ⌜ Fresh one (spec.try (now (tokens .entry)) (expression (now (tokens .entry)) less) (spec.statement (now (tokens .entry)) less)) (now (tokens .entry)) (c .at) first r (now (pool .entry)) (now (pool .exit)) ⌝ }
+{
+    let r0 = catch_block(tokens, pool, first, 0, c, less);
+    let Read::Tree(k0, h0, e0) = r0 else {
+        return r0;
+    };
+    let caught = Token::Keyword(Keyword::KCatch);
+    let r1 = behind_sign(tokens, pool, first, k0, e0, caught, TRY_WITHOUT_CATCH, less);
+    let Read::Tree(k1, h1, e1) = r1 else {
+        return r1;
+    };
+    let r2 = catch_block(tokens, pool, first, k1, e1, less);
+    let Read::Tree(k2, h2, e2) = r2 else {
+        return r2;
+    };
+    let r3 = finally_block(tokens, pool, first, k2, e2, less);
+    let Read::Tree(k3, h3, e3) = r3 else {
+        return r3;
+    };
+    put_row(pool, first, k3, e3, TRY, 0, c.at, h0, h1, h2, h3)
+}
