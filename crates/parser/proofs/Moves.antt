@@ -1,7 +1,7 @@
 -- Steps of the cursor, and what a reader that is ready can ask for.
 use mathlib.Core.Path.{_≡_, refl, sym, ap, _∙_}
 use mathlib.Core.List.{List}
-use Prim.Native.Nat.{ℕ, _+_, _-_, _≤_, _<_}
+use Prim.Native.Nat.{ℕ, _+_, _*_, _-_, _≤_, _<_}
 use native.Mathlib.Omega.{arith}
 use lib.ListN.{length}
 use lib.Dec.{eqb, ltb}
@@ -10,8 +10,9 @@ use borrow.Author.Tests.{ltb-false, eqb-true, eqb-false}
 use Rattle.grammar.specs.Words.{tok, step, is, next-is, EOF, goes-on, operates, order, infix-of, by-code, class, infixes, orders}
 use Rattle.grammar.specs.Tree.{Trees}
 use Rattle.words.proofs.Steps.{step-on, step-within}
-use Rattle.parser.specs.Meets.{Sound, Ready, Stands}
+use Rattle.parser.specs.Meets.{Sound, Ready, Front, Stands}
 use Rattle.parser.proofs.Answers.{onward}
+use Rattle.parser.proofs.Fronts.{front-same}
 
 module _ (ts : List ℕ) (at : ℕ) {b : ℕ} (e : b ≡ step ts at) where
   pub on-step : at ≤ b
@@ -75,3 +76,20 @@ no-more pre e = false≢true (sym (and-false (ltb pre 0)) ∙ e)
 
 pub goes-onward : {ts : List ℕ} {at : ℕ} (pre : ℕ) → Sound ts → at < length ts → goes-on pre (tok ts (step ts at)) ≡ true → at < step ts at
 goes-onward pre s lt e = moves-onto s lt (λ q. no-more pre (ap (goes-on pre) (sym q) ∙ e))
+
+-- ---- numbers that many calls ask for
+
+-- The measure falls where the rank does and the cursor does not go back.
+pub falls : (l n a b r s t : ℕ) → 16 * (l + (n - a)) + r ≡ t → a ≤ b → s < r → 16 * (l + (n - b)) + s < t
+falls l n a b r s t e le lt = omega arith
+
+-- Rows in the part fit a pool as long.
+pub front-le : {p : List ℕ} {k : ℕ} {xs ys : List ℕ} → Front p k xs ys → 8 * k ≤ length ys
+front-le h = omega (arith, h .fit, front-same h)
+
+-- So does a part as long as another.
+pub fits-same : (f m n : ℕ) → 8 * f + m ≤ 524280 → n ≡ m → 8 * f + n ≤ 524280
+fits-same f m n h e = omega arith
+
+pub le-refl : (a : ℕ) → a ≤ a
+le-refl a = omega arith

@@ -6,6 +6,7 @@ use Rattle.grammar.specs.Script.{nesting}
 use Rattle.parser.specs.Entries.{script}
 use Rattle.parser.specs.Meets.{of-node}
 use Rattle.parser.proofs.Answers.{no-list, taken, pass, by-eq, then-read}
+use Rattle.parser.proofs.Moves.{fits-same}
 use borrow.Author.Needs.{needs}
 use Rattle.parser.proofs.script.Statement.{statement}
 use Rattle.parser.proofs.script.Tie as tie
@@ -27,7 +28,7 @@ unfolding script nesting
 returns c = pass _ (c .before .before .before .before .statements .ensures .1 _ _ _ _ (no-list _ _ (c .before .before .before .before .before .before .before .before .pre .within)) refl) (c .enum-told .given .1)
 
 put-row-requires : tie.Need-put-row-requires
-put-row-requires c κs = (omega (arith, c .before .before .before .before .before .before .before .before .before .before .pre .fits, c .before .before .before .before .before .before .statements .kept .1 .0), omega arith)
+put-row-requires c κs = (fits-same _ _ _ (c .before .before .before .before .before .before .before .before .before .before .pre .fits) (c .before .before .before .before .before .before .statements .kept .1 .0), omega arith)
 
 same-length-2 : tie.Need-same-length-2
 same-length-2 c = c .before .before .put-row .kept .0 ∙ c .before .before .before .before .before .before .before .before .before .statements .kept .1 .0

@@ -10,7 +10,7 @@ use Rattle.grammar.specs.Expressions.{dots, dot-expression, get-identifier}
 use Rattle.parser.specs.Meets.{of-node}
 use Rattle.parser.proofs.Answers.{told, taken, pass, by-eq, need-met, choose-true, choose-false, then-read, then-eq}
 use Rattle.parser.proofs.Parts.{ready-lent, back-read, in-part, back-same}
-use Rattle.parser.proofs.Moves.{small, ready-same}
+use Rattle.parser.proofs.Moves.{fits-same, ready-same, small}
 use borrow.Author.Needs.{needs}
 use Rattle.parser.proofs.dots.dot_expression.Statement.{statement}
 use Rattle.parser.proofs.dots.dot_expression.Tie as tie
@@ -83,7 +83,7 @@ add-put-row : tie.Need-add-put-row
 add-put-row c = let h = taken (c .before .before .before .before .before .before .before .before .before .before .before .before .before .before .before .leaf .ensures (c .before .before .before .before .before .before .before .before .before .before .before .before .before .before .before .before .before .before .before .args .tokens .now) (c .before .before .before .before .before .before .before .before .before .before .before .before .before .before .before .before .before .before .before .pre .0 .within)) (c .before .before .before .before .before .before .before .before .before .before .before .r .given .1) in let q = taken (back-read (h .stands) (in-part (dots (c .before .before .before .before .before .before .before .before .before .before .before .before .before .before .before .before .before .before .before .args .tokens .now) turns nil (c .before .before .before .before .before .before .before .before .before .before .before .r .given .0 .1 .1 .0 .at)) (h .stands) (c .before .before .before .before .before .before .dots .ensures)) (c .before .before .q .given .1)) refl in omega (arith, q .stands .front .fit, c .before .before .before .before .before .before .before .before .before .before .before .before .before .before .before .before .before .before .before .pre .0 .fits)
 
 put-row-requires : tie.Need-put-row-requires
-put-row-requires c κs = (omega (arith, c .before .before .before .before .before .before .before .before .before .before .before .before .before .before .before .before .before .before .before .pre .0 .fits, back-same (c .before .before .before .before .before .before .before .before .before .before .before .r .given .0 .0) (c .before .before .before .before .before .before .before .before .before .before .before .before .before .before .before .leaf .last .0) (c .before .before .before .before .before .before .dots .last .1 .0) (c .before .before .before .before .before .before .dots .kept .1 .0) ∙ c .before .before .before .before .before .before .before .before .before .before .before .before .before .before .before .leaf .kept .0), small (c .before .before .before .before .before .before .before .before .before .before .before .before .before .before .before .before .before .before .before .pre .0))
+put-row-requires c κs = (fits-same _ _ _ (c .before .before .before .before .before .before .before .before .before .before .before .before .before .before .before .before .before .before .before .pre .0 .fits) (back-same (c .before .before .before .before .before .before .before .before .before .before .before .r .given .0 .0) (c .before .before .before .before .before .before .before .before .before .before .before .before .before .before .before .leaf .last .0) (c .before .before .before .before .before .before .dots .last .1 .0) (c .before .before .before .before .before .before .dots .kept .1 .0) ∙ c .before .before .before .before .before .before .before .before .before .before .before .before .before .before .before .leaf .kept .0), small (c .before .before .before .before .before .before .before .before .before .before .before .before .before .before .before .before .before .before .before .pre .0))
 
 same-length-4 : tie.Need-same-length-4
 same-length-4 c = c .before .before .put-row .kept .0 ∙ back-same (c .before .before .before .before .before .before .before .before .before .before .before .before .before .before .r .given .0 .0) (c .before .before .before .before .before .before .before .before .before .before .before .before .before .before .before .before .before .before .leaf .last .0) (c .before .before .before .before .before .before .before .before .before .dots .last .1 .0) (c .before .before .before .before .before .before .before .before .before .dots .kept .1 .0) ∙ c .before .before .before .before .before .before .before .before .before .before .before .before .before .before .before .before .before .before .leaf .kept .0

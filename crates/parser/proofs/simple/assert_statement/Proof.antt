@@ -2,13 +2,12 @@
 use mathlib.Core.Path.{refl, sym, ap, _∙_}
 use mathlib.Core.Bool.{not}
 use mathlib.Core.List.{[]}
-use native.Mathlib.Omega.{arith}
 use Rattle.grammar.specs.Statements.{assert}
 use Rattle.parser.specs.Contracts.{behind-sign}
 use Rattle.parser.specs.Meets.{of-node}
 use Rattle.parser.proofs.Answers.{taken, pass, by-eq, refuses, then-read, need-met, need-failed, sooner}
 use Rattle.parser.proofs.Lists.{checked-then}
-use Rattle.parser.proofs.Moves.{on-step, ready-step, ready-same, small}
+use Rattle.parser.proofs.Moves.{fits-same, front-le, on-step, ready-same, ready-step, small}
 use borrow.Author.Needs.{needs}
 use Rattle.parser.proofs.simple.assert_statement.Statement.{statement}
 use Rattle.parser.proofs.simple.assert_statement.Tie as tie
@@ -46,7 +45,7 @@ unfolding assert
 returns-2 c = let h = taken (sooner (on-step _ _ (c .before .before .before .before .before .before .before .before .before .iterate .ensures)) (c .before .before .before .before .before .before .before .before .expression .ensures)) (c .before .before .before .before .r .given .1) in rw (← (c .before .before .before .before .before .before .before .before .before .iterate .ensures), c .iterate2 .ensures) (refuses _ _ _ (then-read _ (h .eq) ∙ need-failed _ _ _ (ap not (sym (c .before .before .next-symbol-is .ensures) ∙ c .before .if1 .taken))))
 
 behind-sign-requires : tie.Need-behind-sign-requires
-behind-sign-requires c κs = let h = taken (sooner (on-step _ _ (c .before .before .before .before .before .before .before .before .before .iterate .ensures)) (c .before .before .before .before .before .before .before .before .expression .ensures)) (c .before .before .before .before .r .given .1) in (ready-same (c .before .before .before .before .before .before .before .before .before .before .before .before .before .pre) (c .before .before .before .before .before .before .before .before .expression .kept .1 .0) (h .stands .within), omega (arith, h .stands .front .fit, c .before .before .before .before .before .before .before .before .expression .kept .1 .0))
+behind-sign-requires c κs = let h = taken (sooner (on-step _ _ (c .before .before .before .before .before .before .before .before .before .iterate .ensures)) (c .before .before .before .before .before .before .before .before .expression .ensures)) (c .before .before .before .before .r .given .1) in (ready-same (c .before .before .before .before .before .before .before .before .before .before .before .before .before .pre) (c .before .before .before .before .before .before .before .before .expression .kept .1 .0) (h .stands .within), front-le (h .stands .front))
 
 enum-known-q : tie.Need-enum-known-q
 enum-known-q c = search needs
@@ -62,7 +61,7 @@ unfolding assert behind-sign
 returns-3 c = let h = taken (sooner (on-step _ _ (c .before .before .before .before .before .before .before .before .before .before .before .before .before .before .iterate .ensures)) (c .before .before .before .before .before .before .before .before .before .before .before .before .before .expression .ensures)) (c .before .before .before .before .before .before .before .before .before .r .given .1) in rw (← (c .before .before .before .before .before .before .before .before .before .before .before .before .before .before .iterate .ensures)) (by-eq (then-read _ (h .eq) ∙ need-met _ _ _ (ap not (sym (c .before .before .before .before .before .before .before .next-symbol-is .ensures) ∙ c .before .before .before .before .before .before .if1 .left)) ∙ checked-then _ _ _) (pass _ (c .before .before .before .before .behind-sign .ensures .1 _ _ _ _ (h .stands)) (c .enum-told2 .given .1)))
 
 put-row-requires : tie.Need-put-row-requires
-put-row-requires c κs = (omega (arith, c .before .before .before .before .before .before .before .before .before .before .before .before .before .before .before .before .before .before .before .before .pre .fits, c .before .before .before .before .before .before .behind-sign .kept .1 .0, c .before .before .before .before .before .before .before .before .before .before .before .before .before .before .before .expression .kept .1 .0), small (c .before .before .before .before .before .before .before .before .before .before .before .before .before .before .before .before .before .before .before .before .pre))
+put-row-requires c κs = (fits-same _ _ _ (c .before .before .before .before .before .before .before .before .before .before .before .before .before .before .before .before .before .before .before .before .pre .fits) (c .before .before .before .before .before .before .behind-sign .kept .1 .0 ∙ c .before .before .before .before .before .before .before .before .before .before .before .before .before .before .before .expression .kept .1 .0), small (c .before .before .before .before .before .before .before .before .before .before .before .before .before .before .before .before .before .before .before .before .pre))
 
 same-length-4 : tie.Need-same-length-4
 same-length-4 c = c .before .before .put-row .kept .0 ∙ c .before .before .before .before .before .before .before .before .before .behind-sign .kept .1 .0 ∙ c .before .before .before .before .before .before .before .before .before .before .before .before .before .before .before .before .before .before .expression .kept .1 .0

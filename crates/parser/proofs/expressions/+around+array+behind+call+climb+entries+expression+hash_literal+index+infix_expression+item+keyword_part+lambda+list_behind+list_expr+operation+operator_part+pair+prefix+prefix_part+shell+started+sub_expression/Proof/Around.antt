@@ -2,8 +2,9 @@
 use mathlib.Core.Path.{refl, _∙_}
 use mathlib.Core.List.{[]}
 use Prim.Native.Nat.{ℕ}
-use native.Mathlib.Omega.{arith}
+use lib.Dec.{lit<}
 use Rattle.parser.specs.Contracts.{around}
+use Rattle.parser.proofs.Moves.{falls, fits-same, le-refl}
 use Rattle.parser.specs.Meets.{of-node}
 use Rattle.parser.proofs.Answers.{taken, pass, by-eq, then-read}
 use borrow.Author.Needs.{needs}
@@ -18,7 +19,7 @@ module _ (t : ℕ) where
   cs = (expression-below t, expression-reads.Post, put-row-reads.Asked, put-row-reads.Learnt)
 
   pub expression-requires : lts.Need-expression-requires cs (around-at t) around-reads.Post
-  expression-requires c κs = (omega (arith, c .before .before .before .pre .0), c .before .before .before .pre .1 .0)
+  expression-requires c κs = (falls _ _ _ _ _ _ _ (c .before .before .before .pre .0) (le-refl _) (lit< tt), c .before .before .before .pre .1 .0)
 
   pub enum-known-r : lts.Need-enum-known-r cs (around-at t) around-reads.Post
   enum-known-r c = search needs
@@ -34,7 +35,7 @@ module _ (t : ℕ) where
   returns c = pass _ (c .before .before .before .before .expression .ensures) (c .enum-told .given .1)
 
   pub put-row-requires : lts.Need-put-row-requires cs (around-at t) around-reads.Post
-  put-row-requires c κs = (omega (arith, c .before .before .before .before .before .before .before .before .before .before .pre .1 .0 .fits, c .before .before .before .before .before .before .expression .kept .1 .0), c .before .before .before .before .before .before .before .before .before .before .pre .1 .1)
+  put-row-requires c κs = (fits-same _ _ _ (c .before .before .before .before .before .before .before .before .before .before .pre .1 .0 .fits) (c .before .before .before .before .before .before .expression .kept .1 .0), c .before .before .before .before .before .before .before .before .before .before .pre .1 .1)
 
   pub same-length-2 : lts.Need-same-length-2 cs (around-at t) around-reads.Post
   same-length-2 c = c .before .before .put-row .kept .0 ∙ c .before .before .before .before .before .before .before .before .before .expression .kept .1 .0

@@ -1,13 +1,13 @@
 -- `array` meets its contract: nothing between its signs, or a list and the closing sign.
+use lib.Dec.{lit<}
 use mathlib.Core.Path.{refl, sym, _∙_}
 use mathlib.Core.List.{[]}
 use Prim.Native.Nat.{ℕ}
-use native.Mathlib.Omega.{arith}
 use Rattle.grammar.specs.Expressions.{array}
 use Rattle.parser.specs.Contracts.{closed}
 use Rattle.parser.specs.Meets.{of-node}
 use Rattle.parser.proofs.Answers.{at-once, taken, pass, by-eq, then-read, choose-true, choose-false}
-use Rattle.parser.proofs.Moves.{within-step, stands-step, ready-same, small}
+use Rattle.parser.proofs.Moves.{falls, le-refl, ready-same, small, stands-step, within-step}
 use borrow.Author.Needs.{needs}
 use Rattle.parser.proofs.expressions.array.Reads as array-reads
 use Rattle.parser.proofs.part.closed.Reads as closed-reads
@@ -42,7 +42,7 @@ module _ (t : ℕ) where
       (record { few = tt; root = of-node; refs = (refl, refl, refl, refl) })))
 
   pub list-expr-requires : lts.Need-list-expr-requires cs (array-at t) array-reads.Post
-  list-expr-requires c κs = (omega (arith, c .before .before .before .before .before .pre .0), c .before .before .before .before .before .pre .1)
+  list-expr-requires c κs = (falls _ _ _ _ _ _ _ (c .before .before .before .before .before .pre .0) (le-refl _) (lit< tt), c .before .before .before .before .before .pre .1)
 
   pub enum-known-r : lts.Need-enum-known-r cs (array-at t) array-reads.Post
   enum-known-r c = search needs

@@ -1,10 +1,12 @@
 -- `behind` meets its contract: an item in the part that is lent from the first free row on.
+use lib.Dec.{lit<}
 use Prim.Native.Nat.{ℕ}
 use native.Mathlib.Omega.{arith}
 use Rattle.grammar.specs.Expressions.{expression}
 use Rattle.parser.specs.Contracts.{item}
 use Rattle.parser.proofs.Answers.{taken, bounded-tree, bounded-told}
 use Rattle.parser.proofs.Parts.{ready-lent, in-part, back-read, back-refused, back-same, part-length}
+use Rattle.parser.proofs.Moves.{falls, le-refl}
 use borrow.Author.Needs.{needs}
 use Rattle.parser.proofs.expressions.behind.Reads as behind-reads
 use Rattle.parser.proofs.expressions.item.Reads as item-reads
@@ -34,7 +36,7 @@ module _ (t : ℕ) where
   add-item c = omega (arith, c .before .before .before .pre .1 .1, c .before .before .before .pre .1 .0 .fits)
 
   pub item-requires : lts.Need-item-requires cs (behind-at t) behind-reads.Post
-  item-requires c κs = (omega (arith, c .before .before .before .pre .0), ready-lent (c .before .before .before .args .rows) (c .before .before .before .pre .1 .0) (c .before .before .before .pre .1 .1))
+  item-requires c κs = (falls _ _ _ _ _ _ _ (c .before .before .before .pre .0) (le-refl _) (lit< tt), ready-lent (c .before .before .before .args .rows) (c .before .before .before .pre .1 .0) (c .before .before .before .pre .1 .1))
 
   pub enum-known-r : lts.Need-enum-known-r cs (behind-at t) behind-reads.Post
   enum-known-r c = search needs

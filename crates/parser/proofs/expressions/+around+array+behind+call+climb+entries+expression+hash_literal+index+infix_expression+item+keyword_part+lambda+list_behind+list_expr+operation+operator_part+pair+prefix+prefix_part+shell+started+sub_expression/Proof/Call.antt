@@ -1,12 +1,12 @@
 -- `call` meets its contract: no arguments, or a list of them behind the caller and any token to close it.
+use lib.Dec.{lit<}
 use mathlib.Core.Path.{refl, sym, _∙_}
 use mathlib.Core.List.{[]}
 use Prim.Native.Nat.{ℕ}
-use native.Mathlib.Omega.{arith}
 use Rattle.grammar.specs.Expressions.{call}
 use Rattle.parser.specs.Meets.{of-node}
 use Rattle.parser.proofs.Answers.{taken, pass, by-eq, then-read, choose-true, choose-false, bounds, bounded-told, later}
-use Rattle.parser.proofs.Moves.{le-trans, on-step, within-step, stands-step, small}
+use Rattle.parser.proofs.Moves.{falls, fits-same, le-refl, le-trans, on-step, small, stands-step, within-step}
 use borrow.Author.Needs.{needs}
 use Rattle.parser.proofs.expressions.call.Reads as call-reads
 use Rattle.words.proofs.iterate.Reads as iterate-reads
@@ -42,7 +42,7 @@ module _ (t : ℕ) where
       )
 
   pub list-behind-requires : lts.Need-list-behind-requires cs (call-at t) call-reads.Post
-  list-behind-requires c κs = (omega (arith, c .before .before .before .before .before .pre .0), c .before .before .before .before .before .pre .1)
+  list-behind-requires c κs = (falls _ _ _ _ _ _ _ (c .before .before .before .before .before .pre .0) (le-refl _) (lit< tt), c .before .before .before .before .before .pre .1)
 
   pub enum-known-r : lts.Need-enum-known-r cs (call-at t) call-reads.Post
   enum-known-r c = search needs
@@ -61,7 +61,7 @@ module _ (t : ℕ) where
   iterate-requires-2 c κs = search needs
 
   pub put-row-requires-2 : lts.Need-put-row-requires-2 cs (call-at t) call-reads.Post
-  put-row-requires-2 c κs = (omega (arith, c .before .before .before .before .before .before .before .before .before .before .before .before .before .pre .1 .0 .fits, c .before .before .before .before .before .before .before .list-behind .kept .1 .0), small (c .before .before .before .before .before .before .before .before .before .before .before .before .before .pre .1 .0))
+  put-row-requires-2 c κs = (fits-same _ _ _ (c .before .before .before .before .before .before .before .before .before .before .before .before .before .pre .1 .0 .fits) (c .before .before .before .before .before .before .before .list-behind .kept .1 .0), small (c .before .before .before .before .before .before .before .before .before .before .before .before .before .pre .1 .0))
 
   pub same-length-3 : lts.Need-same-length-3 cs (call-at t) call-reads.Post
   same-length-3 c = c .before .before .put-row2 .kept .0 ∙ c .before .before .before .before .before .before .before .before .before .before .list-behind .kept .1 .0

@@ -1,4 +1,5 @@
 -- `climb` meets its contract: the tree so far is in the first rows, and each turn puts an operation around it.
+use lib.Dec.{lit<}
 use mathlib.Core.Path.{_≡_, refl, sym, ap, _∙_}
 use mathlib.Core.List.{List, [], _∷_}
 use Prim.Native.Nat.{ℕ, _+_, _*_, _-_, _≤_, _<_}
@@ -13,7 +14,7 @@ use Rattle.words.proofs.Round.{word-token}
 use Rattle.parser.specs.Meets.{Stands, one}
 use Rattle.parser.proofs.Answers.{bounds, bounded-tree, bounded-told, taken, pass, by-eq, choose-true, choose-false, then-read}
 use Rattle.parser.proofs.Loops.{Turning, starts, stops, turns-on}
-use Rattle.parser.proofs.Moves.{le-trans, on-step, stands-step, ready-step, ready-same, goes-onward}
+use Rattle.parser.proofs.Moves.{falls, goes-onward, le-trans, on-step, ready-same, ready-step, stands-step}
 use borrow.Author.Needs.{needs}
 use Rattle.parser.proofs.expressions.climb.Reads as climb-reads
 use Rattle.words.proofs.goes_on.Reads as goes-on-reads
@@ -57,7 +58,7 @@ module _ (t : ℕ) where
 
   pub operation-requires : lts.Need-operation-requires cs (climb-at t) climb-reads.Post Inv-loop μ-loop
   operation-requires c κs =
-      (omega (arith, c .before .before .before .before .before .before .before .before .pre .0, c .before .before .before .before .before .loop .inv .on, on-step _ _ (c .iterate .ensures)), (ready-step _ _ (c .iterate .ensures) (ready-same (c .before .before .before .before .before .before .before .before .pre .1 .0) (c .before .before .before .before .before .loop .inv .same) (c .before .before .before .before .before .loop .inv .within)), c .before .before .before .before .before .loop .inv .fit))
+      (falls _ _ _ _ _ _ _ (c .before .before .before .before .before .before .before .before .pre .0) (le-trans (c .before .before .before .before .before .loop .inv .on) (on-step _ _ (c .iterate .ensures))) (lit< tt), (ready-step _ _ (c .iterate .ensures) (ready-same (c .before .before .before .before .before .before .before .before .pre .1 .0) (c .before .before .before .before .before .loop .inv .same) (c .before .before .before .before .before .loop .inv .within)), c .before .before .before .before .before .loop .inv .fit))
 
   pub enum-known-r : lts.Need-enum-known-r cs (climb-at t) climb-reads.Post Inv-loop μ-loop
   enum-known-r c = search needs

@@ -1,4 +1,5 @@
 -- `entries` meets its contract: the list so far is in the first rows, and each turn links one more entry.
+use lib.Dec.{lit<}
 use mathlib.Core.Path.{_≡_, refl, sym, _∙_}
 use mathlib.Core.Bool.{Bool}
 use mathlib.Core.List.{List, [], _∷_}
@@ -13,7 +14,7 @@ use Rattle.parser.specs.Contracts.{item}
 use Rattle.parser.specs.Meets.{Stands, many}
 use Rattle.parser.proofs.Answers.{bounds, bounded-tree, bounded-told, taken, pass, by-eq, choose-true, choose-false, then-read}
 use Rattle.parser.proofs.Loops.{Turning, starts, stops, lengthens}
-use Rattle.parser.proofs.Moves.{le-trans, on-step, stands-step, ready-step, ready-same, moves-next}
+use Rattle.parser.proofs.Moves.{falls, le-trans, moves-next, on-step, ready-same, ready-step, stands-step}
 use borrow.Author.Needs.{needs}
 use Rattle.parser.proofs.expressions.behind.Reads as behind-reads
 use Rattle.parser.proofs.expressions.entries.Reads as entries-reads
@@ -58,7 +59,7 @@ module _ (t : ℕ) where
 
   pub behind-requires : lts.Need-behind-requires cs (entries-at t) entries-reads.Post Inv-loop μ-loop
   behind-requires c κs = (
-    omega (arith, c .before .before .before .before .before .before .before .before .pre .0, c .before .before .before .before .before .loop .inv .on, on-step _ _ (c .before .before .iterate .ensures), on-step _ _ (c .before .iterate2 .ensures)),
+    falls _ _ _ _ _ _ _ (c .before .before .before .before .before .before .before .before .pre .0) (le-trans (c .before .before .before .before .before .loop .inv .on) (le-trans (on-step _ _ (c .before .before .iterate .ensures)) (on-step _ _ (c .before .iterate2 .ensures)))) (lit< tt),
     (ready-step _ _ (c .before .iterate2 .ensures) (ready-step _ _ (c .before .before .iterate .ensures) (ready-same (c .before .before .before .before .before .before .before .before .pre .1 .0) (c .before .before .before .before .before .loop .inv .same) (c .before .before .before .before .before .loop .inv .within))), c .before .before .before .before .before .loop .inv .fit),
   )
 

@@ -7,7 +7,7 @@ use native.Mathlib.Numerals.{sub-one}
 use Rattle.grammar.specs.Parsed.{refused}
 use Rattle.grammar.specs.Expressions.{expression, level}
 use Rattle.parser.proofs.Answers.{taken, pass, by-eq, refuses, then-read, choose-true, choose-false, read-on}
-use Rattle.parser.proofs.Moves.{stands-step, ready-same}
+use Rattle.parser.proofs.Moves.{front-le, ready-same, stands-step}
 use borrow.Author.Needs.{needs}
 use Rattle.parser.proofs.expressions.climb.Reads as climb-reads
 use Rattle.parser.proofs.expressions.expression.Reads as expression-reads
@@ -70,7 +70,7 @@ module _ (t : ℕ) where
   pub climb-requires : lts.Need-climb-requires cs (expression-at t) expression-reads.Post
   climb-requires c κs =
       let h = taken (c .before .before .before .before .before .before .before .before .prefix-part .ensures) (c .before .before .before .before .r .given .1) in
-      (omega (arith, c .before .before .before .before .before .before .before .before .before .before .before .before .before .pre .0, c .before .before .before .before .before .before .before .before .before .before .if1 .left, h .stands .on), (ready-same (c .before .before .before .before .before .before .before .before .before .before .before .before .before .pre .1) (c .before .before .before .before .before .before .before .before .prefix-part .kept .1 .0) (h .stands .within), omega (arith, h .stands .front .fit, c .before .before .before .before .before .before .before .before .prefix-part .kept .1 .0)))
+      (omega (arith, c .before .before .before .before .before .before .before .before .before .before .before .before .before .pre .0, c .before .before .before .before .before .before .before .before .before .before .if1 .left, h .stands .on), (ready-same (c .before .before .before .before .before .before .before .before .before .before .before .before .before .pre .1) (c .before .before .before .before .before .before .before .before .prefix-part .kept .1 .0) (h .stands .within), front-le (h .stands .front)))
 
   pub same-length-3 : lts.Need-same-length-3 cs (expression-at t) expression-reads.Post
   same-length-3 c = c .before .before .climb .kept .1 .0 ∙ c .before .before .before .before .before .before .before .before .before .before .before .prefix-part .kept .1 .0

@@ -1,13 +1,13 @@
 -- `hash_literal` meets its contract: nothing between its signs, or a pair, the pairs behind it and the closing sign.
+use lib.Dec.{lit<}
 use mathlib.Core.Path.{refl, sym, _∙_}
 use mathlib.Core.List.{[]}
 use Prim.Native.Nat.{ℕ}
-use native.Mathlib.Omega.{arith}
 use Rattle.grammar.specs.Expressions.{hash-literal}
 use Rattle.parser.specs.Contracts.{item, closed}
 use Rattle.parser.specs.Meets.{of-node}
 use Rattle.parser.proofs.Answers.{at-once, taken, pass, by-eq, then-read, choose-true, choose-false, sooner}
-use Rattle.parser.proofs.Moves.{on-step, within-step, stands-step, ready-step, ready-same, small}
+use Rattle.parser.proofs.Moves.{falls, front-le, le-trans, on-step, ready-same, ready-step, small, stands-step, within-step}
 use borrow.Author.Needs.{needs}
 use Rattle.parser.proofs.part.closed.Reads as closed-reads
 use Rattle.parser.proofs.expressions.entries.Reads as entries-reads
@@ -43,7 +43,7 @@ module _ (t : ℕ) where
       (record { few = tt; root = of-node; refs = (refl, refl, refl, refl) })))
 
   pub pair-requires : lts.Need-pair-requires cs (hash-literal-at t) hash-literal-reads.Post
-  pair-requires c κs = (omega (arith, c .before .before .before .before .before .before .pre .0, on-step _ _ (c .before .before .before .iterate .ensures)), ready-step _ _ (c .before .before .before .iterate .ensures) (c .before .before .before .before .before .before .pre .1))
+  pair-requires c κs = (falls _ _ _ _ _ _ _ (c .before .before .before .before .before .before .pre .0) (on-step _ _ (c .before .before .before .iterate .ensures)) (lit< tt), ready-step _ _ (c .before .before .before .iterate .ensures) (c .before .before .before .before .before .before .pre .1))
 
   pub enum-known-r : lts.Need-enum-known-r cs (hash-literal-at t) hash-literal-reads.Post
   enum-known-r c = search needs
@@ -61,7 +61,7 @@ module _ (t : ℕ) where
   pub entries-requires : lts.Need-entries-requires cs (hash-literal-at t) hash-literal-reads.Post
   entries-requires c κs =
       let h = taken (c .before .before .before .before .before .before .pair .ensures) (c .before .before .r .given .1) in
-      (omega (arith, c .before .before .before .before .before .before .before .before .before .before .before .before .before .pre .0, on-step _ _ (c .before .before .before .before .before .before .before .before .before .before .iterate .ensures), h .stands .on), (ready-same (c .before .before .before .before .before .before .before .before .before .before .before .before .before .pre .1) (c .before .before .before .before .before .before .pair .kept .1 .0) (h .stands .within), omega (arith, h .stands .front .fit, c .before .before .before .before .before .before .pair .kept .1 .0)))
+      (falls _ _ _ _ _ _ _ (c .before .before .before .before .before .before .before .before .before .before .before .before .before .pre .0) (le-trans (on-step _ _ (c .before .before .before .before .before .before .before .before .before .before .iterate .ensures)) (h .stands .on)) (lit< tt), (ready-same (c .before .before .before .before .before .before .before .before .before .before .before .before .before .pre .1) (c .before .before .before .before .before .before .pair .kept .1 .0) (h .stands .within), front-le (h .stands .front)))
 
   pub enum-known-q : lts.Need-enum-known-q cs (hash-literal-at t) hash-literal-reads.Post
   enum-known-q c = search needs

@@ -1,13 +1,13 @@
 -- `index` meets its contract: the index behind its left side, and the closing sign.
+use lib.Dec.{lit<}
 use mathlib.Core.Path.{refl, _∙_}
 use mathlib.Core.List.{[]}
 use Prim.Native.Nat.{ℕ}
-use native.Mathlib.Omega.{arith}
 use Rattle.grammar.specs.Expressions.{index}
 use Rattle.parser.specs.Contracts.{item, closed}
 use Rattle.parser.specs.Meets.{of-node}
 use Rattle.parser.proofs.Answers.{taken, pass, by-eq, then-read, bounds, bounded-told, later}
-use Rattle.parser.proofs.Moves.{le-trans, on-step, stands-step, ready-step, ready-same, small}
+use Rattle.parser.proofs.Moves.{falls, le-trans, on-step, ready-same, ready-step, small, stands-step}
 use borrow.Author.Needs.{needs}
 use Rattle.parser.proofs.expressions.behind.Reads as behind-reads
 use Rattle.parser.proofs.part.closed.Reads as closed-reads
@@ -24,7 +24,7 @@ module _ (t : ℕ) where
   iterate-requires c κs = search needs
 
   pub behind-requires : lts.Need-behind-requires cs (index-at t) index-reads.Post
-  behind-requires c κs = (omega (arith, c .before .before .before .before .pre .0, on-step _ _ (c .iterate .ensures)), (ready-step _ _ (c .iterate .ensures) (c .before .before .before .before .pre .1 .0), c .before .before .before .before .pre .1 .1))
+  behind-requires c κs = (falls _ _ _ _ _ _ _ (c .before .before .before .before .pre .0) (on-step _ _ (c .iterate .ensures)) (lit< tt), (ready-step _ _ (c .iterate .ensures) (c .before .before .before .before .pre .1 .0), c .before .before .before .before .pre .1 .1))
 
   pub enum-known-r : lts.Need-enum-known-r cs (index-at t) index-reads.Post
   enum-known-r c = search needs

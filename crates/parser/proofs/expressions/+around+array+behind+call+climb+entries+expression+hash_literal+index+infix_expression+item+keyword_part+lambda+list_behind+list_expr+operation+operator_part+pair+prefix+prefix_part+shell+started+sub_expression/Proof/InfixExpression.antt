@@ -1,8 +1,8 @@
 -- `infix_expression` meets its contract: the right side behind the left, above the operator's order.
+use lib.Dec.{lit<}
 use mathlib.Core.Path.{refl, ap, _∙_}
 use mathlib.Core.List.{[]}
 use Prim.Native.Nat.{ℕ}
-use native.Mathlib.Omega.{arith}
 use Rattle.grammar.specs.Words.{order}
 use Rattle.grammar.specs.Expressions.{infix-expression}
 use Rattle.words.specs.Tokens.{word}
@@ -10,7 +10,7 @@ use Rattle.words.proofs.Round.{word-token}
 use Rattle.parser.specs.Contracts.{item}
 use Rattle.parser.specs.Meets.{of-infix}
 use Rattle.parser.proofs.Answers.{taken, pass, by-eq, then-read, bounds, bounded-told, later}
-use Rattle.parser.proofs.Moves.{le-trans, on-step, stands-step, ready-step, small}
+use Rattle.parser.proofs.Moves.{falls, fits-same, le-trans, on-step, ready-step, small, stands-step}
 use borrow.Author.Needs.{needs}
 use Rattle.parser.proofs.expressions.behind.Reads as behind-reads
 use Rattle.words.proofs.current.Reads as current-reads
@@ -36,7 +36,7 @@ module _ (t : ℕ) where
   order-of-requires c κs = search needs
 
   pub behind-requires : lts.Need-behind-requires cs (infix-expression-at t) infix-expression-reads.Post
-  behind-requires c κs = (omega (arith, c .before .before .before .before .before .before .pre .0, on-step _ _ (c .before .before .iterate .ensures)), (ready-step _ _ (c .before .before .iterate .ensures) (c .before .before .before .before .before .before .pre .1 .0), c .before .before .before .before .before .before .pre .1 .1))
+  behind-requires c κs = (falls _ _ _ _ _ _ _ (c .before .before .before .before .before .before .pre .0) (on-step _ _ (c .before .before .iterate .ensures)) (lit< tt), (ready-step _ _ (c .before .before .iterate .ensures) (c .before .before .before .before .before .before .pre .1 .0), c .before .before .before .before .before .before .pre .1 .1))
 
   pub enum-known-r : lts.Need-enum-known-r cs (infix-expression-at t) infix-expression-reads.Post
   enum-known-r c = search needs
@@ -55,7 +55,7 @@ module _ (t : ℕ) where
   infix-mark-requires c κs = search needs
 
   pub put-row-requires : lts.Need-put-row-requires cs (infix-expression-at t) infix-expression-reads.Post
-  put-row-requires c κs = (omega (arith, c .before .before .before .before .before .before .before .before .before .before .before .before .before .before .pre .1 .0 .fits, c .before .before .before .before .before .before .before .behind .kept .1 .0), small (c .before .before .before .before .before .before .before .before .before .before .before .before .before .before .pre .1 .0))
+  put-row-requires c κs = (fits-same _ _ _ (c .before .before .before .before .before .before .before .before .before .before .before .before .before .before .pre .1 .0 .fits) (c .before .before .before .before .before .before .before .behind .kept .1 .0), small (c .before .before .before .before .before .before .before .before .before .before .before .before .before .before .pre .1 .0))
 
   pub same-length-2 : lts.Need-same-length-2 cs (infix-expression-at t) infix-expression-reads.Post
   same-length-2 c = c .before .before .put-row .kept .0 ∙ c .before .before .before .before .before .before .before .before .before .before .behind .kept .1 .0

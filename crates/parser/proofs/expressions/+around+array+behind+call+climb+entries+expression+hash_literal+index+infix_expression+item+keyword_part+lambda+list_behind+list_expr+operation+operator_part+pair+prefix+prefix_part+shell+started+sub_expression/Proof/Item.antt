@@ -1,7 +1,8 @@
 -- `item` meets its contract: a pair, or an expression.
+use lib.Dec.{lit<}
 use Prim.Native.Nat.{ℕ}
-use native.Mathlib.Omega.{arith}
 use Rattle.parser.specs.Contracts.{item}
+use Rattle.parser.proofs.Moves.{falls, le-refl}
 use Rattle.parser.proofs.expressions.expression.Reads as expression-reads
 use Rattle.parser.proofs.expressions.item.Reads as item-reads
 use Rattle.parser.proofs.expressions.pair.Reads as pair-reads
@@ -13,7 +14,7 @@ module _ (t : ℕ) where
   cs = (pair-below t, pair-reads.Post, expression-below t, expression-reads.Post)
 
   pub pair-requires : lts.Need-pair-requires cs (item-at t) item-reads.Post
-  pair-requires c κs = (omega (arith, c .before .before .before .before .pre .0), c .before .before .before .before .pre .1)
+  pair-requires c κs = (falls _ _ _ _ _ _ _ (c .before .before .before .before .pre .0) (le-refl _) (lit< tt), c .before .before .before .before .pre .1)
 
   pub same-length : lts.Need-same-length cs (item-at t) item-reads.Post
   same-length c = c .before .before .pair .kept .1 .0
@@ -23,7 +24,7 @@ module _ (t : ℕ) where
   returns c = rw (c .before .before .before .before .if1 .taken) (c .before .before .pair .ensures)
 
   pub expression-requires : lts.Need-expression-requires cs (item-at t) item-reads.Post
-  expression-requires c κs = (omega (arith, c .before .before .before .before .pre .0), c .before .before .before .before .pre .1)
+  expression-requires c κs = (falls _ _ _ _ _ _ _ (c .before .before .before .before .pre .0) (le-refl _) (lit< tt), c .before .before .before .before .pre .1)
 
   pub same-length-2 : lts.Need-same-length-2 cs (item-at t) item-reads.Post
   same-length-2 c = c .before .before .expression .kept .1 .0

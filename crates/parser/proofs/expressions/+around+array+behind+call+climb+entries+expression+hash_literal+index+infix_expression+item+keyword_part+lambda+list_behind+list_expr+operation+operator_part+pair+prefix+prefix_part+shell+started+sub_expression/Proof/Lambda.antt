@@ -1,15 +1,15 @@
 -- `lambda` meets its contract: parameters, an arrow, and the body behind it.
+use lib.Dec.{lit<}
 use mathlib.Core.Path.{refl, sym, ap, _∙_}
 use mathlib.Core.Bool.{not}
 use mathlib.Core.List.{[]}
 use Prim.Native.Nat.{ℕ}
-use native.Mathlib.Omega.{arith}
 use borrow.Author.Tests.{not-true, not-false}
 use Rattle.grammar.specs.Expressions.{lambda}
 use Rattle.parser.specs.Contracts.{item}
 use Rattle.parser.specs.Meets.{of-node}
 use Rattle.parser.proofs.Answers.{taken, pass, by-eq, refuses, then-read, need-met, need-failed}
-use Rattle.parser.proofs.Moves.{on-step, stands-step, ready-step, ready-same, small}
+use Rattle.parser.proofs.Moves.{falls, fits-same, front-le, le-refl, le-trans, on-step, ready-same, ready-step, small, stands-step}
 use borrow.Author.Needs.{needs}
 use Rattle.parser.proofs.expressions.behind.Reads as behind-reads
 use Rattle.words.proofs.iterate.Reads as iterate-reads
@@ -39,7 +39,7 @@ module _ (t : ℕ) where
   returns-2 c = refuses _ _ _ (need-met _ _ _ (ap not (sym (c .before .before .before .next-symbol-is .ensures) ∙ c .before .before .if1 .left)) ∙ need-failed _ _ _ (ap not (sym (c .before .next-symbol-is2 .ensures) ∙ c .if2 .taken)))
 
   pub list-expr-requires : lts.Need-list-expr-requires cs (lambda-at t) lambda-reads.Post
-  list-expr-requires c κs = (omega (arith, c .before .before .before .before .before .before .before .pre .0), c .before .before .before .before .before .before .before .pre .1)
+  list-expr-requires c κs = (falls _ _ _ _ _ _ _ (c .before .before .before .before .before .before .before .pre .0) (le-refl _) (lit< tt), c .before .before .before .before .before .before .before .pre .1)
 
   pub enum-known-r : lts.Need-enum-known-r cs (lambda-at t) lambda-reads.Post
   enum-known-r c = search needs
@@ -73,8 +73,8 @@ module _ (t : ℕ) where
   pub behind-requires : lts.Need-behind-requires cs (lambda-at t) lambda-reads.Post
   behind-requires c κs =
       let h = taken (c .before .before .before .before .before .before .before .before .before .before .list-expr .ensures) (c .before .before .before .before .before .before .r .given .1) in (
-        omega (arith, c .before .before .before .before .before .before .before .before .before .before .before .before .before .before .before .before .before .before .pre .0, h .stands .on, on-step _ _ (c .before .before .iterate .ensures), on-step _ _ (c .before .iterate2 .ensures)),
-        (ready-step _ _ (c .before .iterate2 .ensures) (ready-step _ _ (c .before .before .iterate .ensures) (ready-same (c .before .before .before .before .before .before .before .before .before .before .before .before .before .before .before .before .before .before .pre .1) (c .before .before .before .before .before .before .before .before .before .before .list-expr .kept .1 .0) (h .stands .within))), omega (arith, h .stands .front .fit, c .before .before .before .before .before .before .before .before .before .before .list-expr .kept .1 .0)),
+        falls _ _ _ _ _ _ _ (c .before .before .before .before .before .before .before .before .before .before .before .before .before .before .before .before .before .before .pre .0) (le-trans (h .stands .on) (le-trans (on-step _ _ (c .before .before .iterate .ensures)) (on-step _ _ (c .before .iterate2 .ensures)))) (lit< tt),
+        (ready-step _ _ (c .before .iterate2 .ensures) (ready-step _ _ (c .before .before .iterate .ensures) (ready-same (c .before .before .before .before .before .before .before .before .before .before .before .before .before .before .before .before .before .before .pre .1) (c .before .before .before .before .before .before .before .before .before .before .list-expr .kept .1 .0) (h .stands .within))), front-le (h .stands .front)),
       )
 
   pub enum-known-q : lts.Need-enum-known-q cs (lambda-at t) lambda-reads.Post
@@ -91,7 +91,7 @@ module _ (t : ℕ) where
   returns-5 c = let h = taken (c .before .before .before .before .before .before .before .before .before .before .before .before .before .before .before .list-expr .ensures) (c .before .before .before .before .before .before .before .before .before .before .before .r .given .1) in by-eq (need-met _ _ _ (ap not (sym (c .before .before .before .before .before .before .before .before .before .before .before .before .before .before .before .before .before .before .before .before .next-symbol-is .ensures) ∙ c .before .before .before .before .before .before .before .before .before .before .before .before .before .before .before .before .before .before .before .if1 .left)) ∙ need-met _ _ _ (ap not (sym (c .before .before .before .before .before .before .before .before .before .before .before .before .before .before .before .before .before .before .next-symbol-is2 .ensures) ∙ c .before .before .before .before .before .before .before .before .before .before .before .before .before .before .before .before .before .if2 .left)) ∙ then-read _ (h .eq) ∙ need-met _ _ _ (sym (c .before .before .before .before .before .before .before .before .before .next-symbol-is3 .ensures) ∙ not-false _ (c .before .before .before .before .before .before .before .before .if3 .left))) (rw (← (c .before .before .before .before .before .before .before .iterate .ensures), ← (c .before .before .before .before .before .before .iterate2 .ensures)) (pass _ (c .before .before .before .before .behind .ensures .1 _ _ _ _ (stands-step _ _ (c .before .before .before .before .before .before .iterate2 .ensures) (stands-step _ _ (c .before .before .before .before .before .before .before .iterate .ensures) (h .stands)))) (c .enum-told2 .given .1)))
 
   pub put-row-requires : lts.Need-put-row-requires cs (lambda-at t) lambda-reads.Post
-  put-row-requires c κs = (omega (arith, c .before .before .before .before .before .before .before .before .before .before .before .before .before .before .before .before .before .before .before .before .before .before .before .before .before .pre .1 .fits, c .before .before .before .before .before .before .behind .kept .1 .0, c .before .before .before .before .before .before .before .before .before .before .before .before .before .before .before .before .before .list-expr .kept .1 .0), small (c .before .before .before .before .before .before .before .before .before .before .before .before .before .before .before .before .before .before .before .before .before .before .before .before .before .pre .1))
+  put-row-requires c κs = (fits-same _ _ _ (c .before .before .before .before .before .before .before .before .before .before .before .before .before .before .before .before .before .before .before .before .before .before .before .before .before .pre .1 .fits) (c .before .before .before .before .before .before .behind .kept .1 .0 ∙ c .before .before .before .before .before .before .before .before .before .before .before .before .before .before .before .before .before .list-expr .kept .1 .0), small (c .before .before .before .before .before .before .before .before .before .before .before .before .before .before .before .before .before .before .before .before .before .before .before .before .before .pre .1))
 
   pub same-length-4 : lts.Need-same-length-4 cs (lambda-at t) lambda-reads.Post
   same-length-4 c = c .before .before .put-row .kept .0 ∙ c .before .before .before .before .before .before .before .before .before .behind .kept .1 .0 ∙ c .before .before .before .before .before .before .before .before .before .before .before .before .before .before .before .before .before .before .before .before .list-expr .kept .1 .0

@@ -1,9 +1,11 @@
 -- `list_behind` meets its contract: a list in the part that is lent from the first free row on.
+use lib.Dec.{lit<}
 use Prim.Native.Nat.{ℕ}
 use native.Mathlib.Omega.{arith}
 use Rattle.grammar.specs.Expressions.{expression, list-expr}
 use Rattle.parser.proofs.Answers.{taken, bounded-tree, bounded-told}
 use Rattle.parser.proofs.Parts.{ready-lent, in-part, back-read, back-refused, back-same, part-length}
+use Rattle.parser.proofs.Moves.{falls, le-refl}
 use borrow.Author.Needs.{needs}
 use Rattle.parser.proofs.expressions.list_behind.Reads as list-behind-reads
 use Rattle.parser.proofs.expressions.list_expr.Reads as list-expr-reads
@@ -33,7 +35,7 @@ module _ (t : ℕ) where
   add-list-expr c = omega (arith, c .before .before .before .pre .1 .1, c .before .before .before .pre .1 .0 .fits)
 
   pub list-expr-requires : lts.Need-list-expr-requires cs (list-behind-at t) list-behind-reads.Post
-  list-expr-requires c κs = (omega (arith, c .before .before .before .pre .0), ready-lent (c .before .before .before .args .rows) (c .before .before .before .pre .1 .0) (c .before .before .before .pre .1 .1))
+  list-expr-requires c κs = (falls _ _ _ _ _ _ _ (c .before .before .before .pre .0) (le-refl _) (lit< tt), ready-lent (c .before .before .before .args .rows) (c .before .before .before .pre .1 .0) (c .before .before .before .pre .1 .1))
 
   pub enum-known-r : lts.Need-enum-known-r cs (list-behind-at t) list-behind-reads.Post
   enum-known-r c = search needs

@@ -1,11 +1,11 @@
 -- `list_expr` meets its contract: no list before a closing bracket, or an expression and the entries behind it.
+use lib.Dec.{lit<}
 use mathlib.Core.Path.{sym, _∙_}
 use Prim.Native.Nat.{ℕ}
-use native.Mathlib.Omega.{arith}
 use Rattle.grammar.specs.Expressions.{list-expr}
 use Rattle.parser.specs.Contracts.{item}
 use Rattle.parser.proofs.Answers.{taken, pass, by-eq, then-read, choose-true, choose-false, sooner, read-none}
-use Rattle.parser.proofs.Moves.{on-step, ready-step, ready-same}
+use Rattle.parser.proofs.Moves.{falls, front-le, le-trans, on-step, ready-same, ready-step}
 use borrow.Author.Needs.{needs}
 use Rattle.parser.proofs.expressions.entries.Reads as entries-reads
 use Rattle.parser.proofs.expressions.expression.Reads as expression-reads
@@ -30,7 +30,7 @@ module _ (t : ℕ) where
   iterate-requires c κs = search needs
 
   pub expression-requires : lts.Need-expression-requires cs (list-expr-at t) list-expr-reads.Post
-  expression-requires c κs = (omega (arith, c .before .before .before .before .before .before .pre .0, on-step _ _ (c .iterate .ensures)), ready-step _ _ (c .iterate .ensures) (c .before .before .before .before .before .before .pre .1))
+  expression-requires c κs = (falls _ _ _ _ _ _ _ (c .before .before .before .before .before .before .pre .0) (on-step _ _ (c .iterate .ensures)) (lit< tt), ready-step _ _ (c .iterate .ensures) (c .before .before .before .before .before .before .pre .1))
 
   pub enum-known-r : lts.Need-enum-known-r cs (list-expr-at t) list-expr-reads.Post
   enum-known-r c = search needs
@@ -48,7 +48,7 @@ module _ (t : ℕ) where
   pub entries-requires : lts.Need-entries-requires cs (list-expr-at t) list-expr-reads.Post
   entries-requires c κs =
       let h = taken (c .before .before .before .before .before .before .expression .ensures) (c .before .before .r .given .1) in
-      (omega (arith, c .before .before .before .before .before .before .before .before .before .before .before .before .before .pre .0, on-step _ _ (c .before .before .before .before .before .before .before .iterate .ensures), h .stands .on), (ready-same (c .before .before .before .before .before .before .before .before .before .before .before .before .before .pre .1) (c .before .before .before .before .before .before .expression .kept .1 .0) (h .stands .within), omega (arith, h .stands .front .fit, c .before .before .before .before .before .before .expression .kept .1 .0)))
+      (falls _ _ _ _ _ _ _ (c .before .before .before .before .before .before .before .before .before .before .before .before .before .pre .0) (le-trans (on-step _ _ (c .before .before .before .before .before .before .before .iterate .ensures)) (h .stands .on)) (lit< tt), (ready-same (c .before .before .before .before .before .before .before .before .before .before .before .before .before .pre .1) (c .before .before .before .before .before .before .expression .kept .1 .0) (h .stands .within), front-le (h .stands .front)))
 
   pub same-length-2 : lts.Need-same-length-2 cs (list-expr-at t) list-expr-reads.Post
   same-length-2 c = c .before .before .entries .kept .1 .0 ∙ c .before .before .before .before .before .before .before .before .before .expression .kept .1 .0

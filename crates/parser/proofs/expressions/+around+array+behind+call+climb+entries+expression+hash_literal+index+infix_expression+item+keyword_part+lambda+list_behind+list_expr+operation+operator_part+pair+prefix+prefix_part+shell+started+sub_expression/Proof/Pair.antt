@@ -1,4 +1,5 @@
 -- `pair` meets its contract: the key, a colon, and the value behind it.
+use lib.Dec.{lit<}
 use mathlib.Core.Path.{refl, sym, _∙_}
 use mathlib.Core.List.{[]}
 use Prim.Native.Nat.{ℕ}
@@ -9,7 +10,7 @@ use Rattle.grammar.specs.Expressions.{pair}
 use Rattle.parser.specs.Contracts.{item}
 use Rattle.parser.specs.Meets.{of-node}
 use Rattle.parser.proofs.Answers.{taken, pass, by-eq, refuses, then-read, need-met, need-failed}
-use Rattle.parser.proofs.Moves.{on-step, within-step, stands-step, ready-step, ready-same, moves-next}
+use Rattle.parser.proofs.Moves.{falls, fits-same, front-le, le-refl, moves-next, on-step, ready-same, ready-step, stands-step, within-step}
 use borrow.Author.Needs.{needs}
 use Rattle.parser.proofs.expressions.behind.Reads as behind-reads
 use Rattle.parser.proofs.expressions.expression.Reads as expression-reads
@@ -25,7 +26,7 @@ module _ (t : ℕ) where
   cs = (expression-below t, expression-reads.Post, iterate-reads.Asked, iterate-reads.Learnt, next-symbol-is-reads.Asked, next-symbol-is-reads.Learnt, behind-below t, behind-reads.Post, put-row-reads.Asked, put-row-reads.Learnt)
 
   pub expression-requires : lts.Need-expression-requires cs (pair-at t) pair-reads.Post
-  expression-requires c κs = (omega (arith, c .before .before .before .pre .0), c .before .before .before .pre .1)
+  expression-requires c κs = (falls _ _ _ _ _ _ _ (c .before .before .before .pre .0) (le-refl _) (lit< tt), c .before .before .before .pre .1)
 
   pub enum-known-r : lts.Need-enum-known-r cs (pair-at t) pair-reads.Post
   enum-known-r c = search needs
@@ -60,7 +61,7 @@ module _ (t : ℕ) where
   behind-requires c κs =
       let h = taken (c .before .before .before .before .before .before .before .before .before .before .expression .ensures) (c .before .before .before .before .before .before .r .given .1) in (
         omega (arith, c .before .before .before .before .before .before .before .before .before .before .before .before .before .before .pre .0, h .stands .on, h .stands .within, moves-next SColon (c .before .before .before .before .before .before .before .before .before .before .before .before .before .before .pre .1 .sound) (h .stands .within) (sym (c .before .before .before .next-symbol-is .ensures) ∙ not-false _ (c .before .before .if1 .left)) refl, c .before .before .before .before .iterate .ensures, on-step _ _ (c .iterate2 .ensures)),
-        (ready-step _ _ (c .iterate2 .ensures) (ready-step _ _ (c .before .before .before .before .iterate .ensures) (ready-same (c .before .before .before .before .before .before .before .before .before .before .before .before .before .before .pre .1) (c .before .before .before .before .before .before .before .before .before .before .expression .kept .1 .0) (h .stands .within))), omega (arith, h .stands .front .fit, c .before .before .before .before .before .before .before .before .before .before .expression .kept .1 .0)),
+        (ready-step _ _ (c .iterate2 .ensures) (ready-step _ _ (c .before .before .before .before .iterate .ensures) (ready-same (c .before .before .before .before .before .before .before .before .before .before .before .before .before .before .pre .1) (c .before .before .before .before .before .before .before .before .before .before .expression .kept .1 .0) (h .stands .within))), front-le (h .stands .front)),
       )
 
   pub enum-known-q : lts.Need-enum-known-q cs (pair-at t) pair-reads.Post
@@ -79,7 +80,7 @@ module _ (t : ℕ) where
   pub put-row-requires : lts.Need-put-row-requires cs (pair-at t) pair-reads.Post
   put-row-requires c κs =
       let h = taken (c .before .before .before .before .before .before .before .before .before .before .before .before .before .before .before .before .before .expression .ensures) (c .before .before .before .before .before .before .before .before .before .before .before .before .before .r .given .1) in
-      (omega (arith, c .before .before .before .before .before .before .before .before .before .before .before .before .before .before .before .before .before .before .before .before .before .pre .1 .fits, c .before .before .before .before .before .before .behind .kept .1 .0, c .before .before .before .before .before .before .before .before .before .before .before .before .before .before .before .before .before .expression .kept .1 .0), omega (arith, within-step _ _ (c .before .before .before .before .before .before .before .before .before .before .before .iterate .ensures) (h .stands .within), c .before .before .before .before .before .before .before .before .before .before .before .before .before .before .before .before .before .before .before .before .before .pre .1 .sound .few))
+      (fits-same _ _ _ (c .before .before .before .before .before .before .before .before .before .before .before .before .before .before .before .before .before .before .before .before .before .pre .1 .fits) (c .before .before .before .before .before .before .behind .kept .1 .0 ∙ c .before .before .before .before .before .before .before .before .before .before .before .before .before .before .before .before .before .expression .kept .1 .0), omega (arith, within-step _ _ (c .before .before .before .before .before .before .before .before .before .before .before .iterate .ensures) (h .stands .within), c .before .before .before .before .before .before .before .before .before .before .before .before .before .before .before .before .before .before .before .before .before .pre .1 .sound .few))
 
   pub same-length-4 : lts.Need-same-length-4 cs (pair-at t) pair-reads.Post
   same-length-4 c = c .before .before .put-row .kept .0 ∙ c .before .before .before .before .before .before .before .before .before .behind .kept .1 .0 ∙ c .before .before .before .before .before .before .before .before .before .before .before .before .before .before .before .before .before .before .before .before .expression .kept .1 .0

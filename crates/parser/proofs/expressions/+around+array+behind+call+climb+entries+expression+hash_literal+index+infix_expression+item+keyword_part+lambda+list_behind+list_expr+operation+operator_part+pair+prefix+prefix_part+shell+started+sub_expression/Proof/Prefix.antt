@@ -1,10 +1,10 @@
 -- `prefix` meets its contract: a row around what is behind its operator.
+use lib.Dec.{lit<}
 use Prim.Native.Nat.{ℕ}
-use native.Mathlib.Omega.{arith}
 use Rattle.grammar.specs.Expressions.{prefix}
 use Rattle.parser.specs.Contracts.{around}
 use Rattle.parser.proofs.Answers.{sooner}
-use Rattle.parser.proofs.Moves.{on-step, ready-step, small}
+use Rattle.parser.proofs.Moves.{falls, on-step, ready-step, small}
 use borrow.Author.Needs.{needs}
 use Rattle.parser.proofs.expressions.around.Reads as around-reads
 use Rattle.words.proofs.iterate.Reads as iterate-reads
@@ -20,7 +20,7 @@ module _ (t : ℕ) where
   iterate-requires c κs = search needs
 
   pub around-requires : lts.Need-around-requires cs (prefix-at t) prefix-reads.Post
-  around-requires c κs = (omega (arith, c .before .before .before .before .pre .0, on-step _ _ (c .iterate .ensures)), (ready-step _ _ (c .iterate .ensures) (c .before .before .before .before .pre .1), small (c .before .before .before .before .pre .1)))
+  around-requires c κs = (falls _ _ _ _ _ _ _ (c .before .before .before .before .pre .0) (on-step _ _ (c .iterate .ensures)) (lit< tt), (ready-step _ _ (c .iterate .ensures) (c .before .before .before .before .pre .1), small (c .before .before .before .before .pre .1)))
 
   pub same-length : lts.Need-same-length cs (prefix-at t) prefix-reads.Post
   same-length c = c .before .before .around .kept .1 .0

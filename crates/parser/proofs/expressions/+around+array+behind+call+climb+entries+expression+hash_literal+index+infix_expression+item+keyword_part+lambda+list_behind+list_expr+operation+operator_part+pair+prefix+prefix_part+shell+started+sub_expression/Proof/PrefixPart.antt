@@ -1,7 +1,7 @@
 -- `prefix_part` meets its contract: each token has its arm in the definition, and no other begins an expression.
+use lib.Dec.{lit<}
 use mathlib.Core.Path.{refl, ap, _∙_}
 use mathlib.Core.List.{[], _∷_}
-use native.Mathlib.Omega.{arith}
 use Rattle.grammar.specs.Words.{class, codes}
 use Rattle.grammar.specs.Parsed.{match, choose}
 use Rattle.grammar.specs.Expressions.{prefix-part}
@@ -9,6 +9,7 @@ use Rattle.words.specs.Tokens.{word}
 use Rattle.words.proofs.Arms.{token-arm}
 use Rattle.words.proofs.Tests.{but}
 use Rattle.parser.proofs.Matches.{word-of, no-start, unstarted}
+use Rattle.parser.proofs.Moves.{falls, le-refl}
 use borrow.Author.Needs.{needs}
 use Prim.Native.Nat.{ℕ}
 use Rattle.words.proofs.current.Reads as current-reads
@@ -61,13 +62,13 @@ module _ (t : ℕ) where
   enum-known-t c = search needs
 
   pub keyword-part-requires : lts.Need-keyword-part-requires cs (prefix-part-at t) prefix-part-reads.Post
-  keyword-part-requires c κs = (omega (arith, c .before .before .before .before .before .before .before .pre .0), (c .before .before .before .before .before .before .before .pre .1, word-of (c .before .before .before .before .before .before .before .pre .1) (c .before .before .before .before .current .ensures) ∙ ap word (c .before .before .t .given .1)))
+  keyword-part-requires c κs = (falls _ _ _ _ _ _ _ (c .before .before .before .before .before .before .before .pre .0) (le-refl _) (lit< tt), (c .before .before .before .before .before .before .before .pre .1, word-of (c .before .before .before .before .before .before .before .pre .1) (c .before .before .before .before .current .ensures) ∙ ap word (c .before .before .t .given .1)))
 
   pub enum-known-t-2 : lts.Need-enum-known-t-2 cs (prefix-part-at t) prefix-part-reads.Post
   enum-known-t-2 c = search needs
 
   pub operator-part-requires : lts.Need-operator-part-requires cs (prefix-part-at t) prefix-part-reads.Post
-  operator-part-requires c κs = (omega (arith, c .before .before .before .before .before .before .before .pre .0), (c .before .before .before .before .before .before .before .pre .1, word-of (c .before .before .before .before .before .before .before .pre .1) (c .before .before .before .before .current .ensures) ∙ ap word (c .before .before .t2 .given .1)))
+  operator-part-requires c κs = (falls _ _ _ _ _ _ _ (c .before .before .before .before .before .before .before .pre .0) (le-refl _) (lit< tt), (c .before .before .before .before .before .before .before .pre .1, word-of (c .before .before .before .before .before .before .before .pre .1) (c .before .before .before .before .current .ensures) ∙ ap word (c .before .before .t2 .given .1)))
 
   pub same-length : lts.Need-same-length cs (prefix-part-at t) prefix-part-reads.Post
   same-length c = search needs

@@ -1,11 +1,11 @@
 -- `shell` meets its contract: a row around the command, which is raw behind a dot.
+use lib.Dec.{lit<}
 use mathlib.Core.Path.{sym, _∙_}
 use Prim.Native.Nat.{ℕ}
-use native.Mathlib.Omega.{arith}
 use Rattle.grammar.specs.Expressions.{shell, command}
 use Rattle.parser.specs.Contracts.{around}
 use Rattle.parser.proofs.Answers.{sooner, by-eq, choose-true, choose-false}
-use Rattle.parser.proofs.Moves.{on-step, ready-step, small}
+use Rattle.parser.proofs.Moves.{falls, le-trans, on-step, ready-step, small}
 use borrow.Author.Needs.{needs}
 use Rattle.parser.proofs.expressions.around.Reads as around-reads
 use Rattle.words.proofs.iterate.Reads as iterate-reads
@@ -28,7 +28,7 @@ module _ (t : ℕ) where
   iterate-requires-2 c κs = search needs
 
   pub around-requires : lts.Need-around-requires cs (shell-at t) shell-reads.Post
-  around-requires c κs = (omega (arith, c .before .before .before .before .before .before .before .pre .0, on-step _ _ (c .before .before .before .before .iterate .ensures), on-step _ _ (c .iterate2 .ensures)), (ready-step _ _ (c .iterate2 .ensures) (ready-step _ _ (c .before .before .before .before .iterate .ensures) (c .before .before .before .before .before .before .before .pre .1)), small (c .before .before .before .before .before .before .before .pre .1)))
+  around-requires c κs = (falls _ _ _ _ _ _ _ (c .before .before .before .before .before .before .before .pre .0) (le-trans (on-step _ _ (c .before .before .before .before .iterate .ensures)) (on-step _ _ (c .iterate2 .ensures))) (lit< tt), (ready-step _ _ (c .iterate2 .ensures) (ready-step _ _ (c .before .before .before .before .iterate .ensures) (c .before .before .before .before .before .before .before .pre .1)), small (c .before .before .before .before .before .before .before .pre .1)))
 
   pub same-length : lts.Need-same-length cs (shell-at t) shell-reads.Post
   same-length c = c .before .before .around .kept .1 .0
@@ -40,7 +40,7 @@ module _ (t : ℕ) where
       (by-eq (choose-true _ _ (sym (c .before .before .before .before .before .before .next-symbol-is .ensures) ∙ c .before .before .before .before .before .if1 .taken)) (rw (← (c .before .before .before .before .before .before .before .iterate .ensures), ← (c .before .before .before .iterate2 .ensures)) (c .before .before .around .ensures))))
 
   pub around-requires-2 : lts.Need-around-requires-2 cs (shell-at t) shell-reads.Post
-  around-requires-2 c κs = (omega (arith, c .before .before .before .before .before .before .pre .0, on-step _ _ (c .before .before .before .iterate .ensures)), (ready-step _ _ (c .before .before .before .iterate .ensures) (c .before .before .before .before .before .before .pre .1), small (c .before .before .before .before .before .before .pre .1)))
+  around-requires-2 c κs = (falls _ _ _ _ _ _ _ (c .before .before .before .before .before .before .pre .0) (on-step _ _ (c .before .before .before .iterate .ensures)) (lit< tt), (ready-step _ _ (c .before .before .before .iterate .ensures) (c .before .before .before .before .before .before .pre .1), small (c .before .before .before .before .before .before .pre .1)))
 
   pub same-length-2 : lts.Need-same-length-2 cs (shell-at t) shell-reads.Post
   same-length-2 c = c .before .before .around2 .kept .1 .0

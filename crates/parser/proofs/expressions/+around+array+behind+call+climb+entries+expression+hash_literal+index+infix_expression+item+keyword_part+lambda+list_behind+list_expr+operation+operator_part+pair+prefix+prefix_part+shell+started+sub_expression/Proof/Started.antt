@@ -1,12 +1,12 @@
 -- `started` meets its contract: an expression that is a call, with a flag in its row.
+use lib.Dec.{lit<}
 use mathlib.Core.Path.{sym, ap, _∙_}
 use Prim.Native.Nat.{ℕ}
-use native.Mathlib.Omega.{arith}
 use lib.Dec.{eqb}
 use borrow.Author.Tests.{eq-eqb, ne-eqb}
 use Rattle.grammar.specs.Expressions.{started}
 use Rattle.parser.proofs.Answers.{taken, pass, by-eq, refuses, sooner, then-read, need-met, need-failed}
-use Rattle.parser.proofs.Moves.{on-step, ready-step}
+use Rattle.parser.proofs.Moves.{falls, on-step, ready-step}
 use Rattle.parser.proofs.Roots.{is-called}
 use Rattle.parser.proofs.Matches.{reads-marked}
 use borrow.Author.Needs.{needs}
@@ -26,7 +26,7 @@ module _ (t : ℕ) where
   iterate-requires c κs = search needs
 
   pub expression-requires : lts.Need-expression-requires cs (started-at t) started-reads.Post
-  expression-requires c κs = (omega (arith, c .before .before .before .before .pre .0, on-step _ _ (c .iterate .ensures)), ready-step _ _ (c .iterate .ensures) (c .before .before .before .before .pre .1))
+  expression-requires c κs = (falls _ _ _ _ _ _ _ (c .before .before .before .before .pre .0) (on-step _ _ (c .iterate .ensures)) (lit< tt), ready-step _ _ (c .iterate .ensures) (c .before .before .before .before .pre .1))
 
   pub enum-known-r : lts.Need-enum-known-r cs (started-at t) started-reads.Post
   enum-known-r c = search needs

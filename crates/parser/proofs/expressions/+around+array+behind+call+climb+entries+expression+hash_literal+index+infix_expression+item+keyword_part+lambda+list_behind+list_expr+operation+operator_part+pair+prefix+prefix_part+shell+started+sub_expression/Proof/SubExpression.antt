@@ -1,11 +1,11 @@
 -- `sub_expression` meets its contract: an expression in brackets, with the flag of brackets in its row.
+use lib.Dec.{lit<}
 use mathlib.Core.Path.{sym, ap, _∙_}
 use mathlib.Core.Bool.{not}
-use native.Mathlib.Omega.{arith}
 use borrow.Author.Tests.{not-true, not-false}
 use Rattle.grammar.specs.Expressions.{sub-expression}
 use Rattle.parser.proofs.Answers.{taken, pass, by-eq, refuses, sooner, then-read, need-met, need-failed}
-use Rattle.parser.proofs.Moves.{on-step, ready-step, stands-step}
+use Rattle.parser.proofs.Moves.{falls, on-step, ready-step, stands-step}
 use Rattle.parser.proofs.Matches.{reads-marked}
 use borrow.Author.Needs.{needs}
 use Prim.Native.Nat.{ℕ}
@@ -32,7 +32,7 @@ module _ (t : ℕ) where
   returns c = refuses _ _ _ (rw (← (c .before .before .iterate .ensures)) (need-failed _ _ _ (ap not (sym (c .before .next-symbol-is .ensures) ∙ c .if1 .taken))))
 
   pub expression-requires : lts.Need-expression-requires cs (sub-expression-at t) sub-expression-reads.Post
-  expression-requires c κs = (omega (arith, c .before .before .before .before .before .before .pre .0, on-step _ _ (c .before .before .before .iterate .ensures)), ready-step _ _ (c .before .before .before .iterate .ensures) (c .before .before .before .before .before .before .pre .1))
+  expression-requires c κs = (falls _ _ _ _ _ _ _ (c .before .before .before .before .before .before .pre .0) (on-step _ _ (c .before .before .before .iterate .ensures)) (lit< tt), ready-step _ _ (c .before .before .before .iterate .ensures) (c .before .before .before .before .before .before .pre .1))
 
   pub enum-known-r : lts.Need-enum-known-r cs (sub-expression-at t) sub-expression-reads.Post
   enum-known-r c = search needs

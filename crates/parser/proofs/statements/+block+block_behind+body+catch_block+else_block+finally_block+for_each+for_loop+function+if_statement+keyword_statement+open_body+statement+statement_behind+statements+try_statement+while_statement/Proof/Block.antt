@@ -1,4 +1,5 @@
 -- `block` meets its contract: nothing between its signs, or a statement and those behind it up to the closing brace.
+use lib.Dec.{lit<}
 use mathlib.Core.Path.{refl, sym, _∙_}
 use mathlib.Core.List.{[]}
 use Prim.Native.Nat.{ℕ}
@@ -6,7 +7,7 @@ use native.Mathlib.Omega.{arith}
 use Rattle.grammar.specs.Statements.{block, opened}
 use Rattle.parser.specs.Meets.{of-node}
 use Rattle.parser.proofs.Answers.{at-once, taken, pass, by-eq, then-read, choose-true, choose-false, sooner}
-use Rattle.parser.proofs.Moves.{le-trans, on-step, within-step, stands-step, ready-step, ready-same}
+use Rattle.parser.proofs.Moves.{falls, fits-same, front-le, le-trans, on-step, ready-same, ready-step, stands-step, within-step}
 use borrow.Author.Needs.{needs}
 use Rattle.parser.proofs.statements.block.Reads as block-reads
 use Rattle.words.proofs.iterate.Reads as iterate-reads
@@ -44,7 +45,7 @@ module _ (t : ℕ) where
       (record { few = tt; root = of-node; refs = (refl, refl, refl, refl) }))))
 
   pub statement-requires : lts.Need-statement-requires cs (block-at t) block-reads.Post
-  statement-requires c κs = (omega (arith, c .before .before .before .before .before .before .before .pre .0, on-step _ _ (c .before .before .before .before .iterate .ensures), on-step _ _ (c .before .before .before .iterate2 .ensures)), ready-step _ _ (c .before .before .before .iterate2 .ensures) (ready-step _ _ (c .before .before .before .before .iterate .ensures) (c .before .before .before .before .before .before .before .pre .1)))
+  statement-requires c κs = (falls _ _ _ _ _ _ _ (c .before .before .before .before .before .before .before .pre .0) (le-trans (on-step _ _ (c .before .before .before .before .iterate .ensures)) (on-step _ _ (c .before .before .before .iterate2 .ensures))) (lit< tt), ready-step _ _ (c .before .before .before .iterate2 .ensures) (ready-step _ _ (c .before .before .before .before .iterate .ensures) (c .before .before .before .before .before .before .before .pre .1)))
 
   pub enum-known-r : lts.Need-enum-known-r cs (block-at t) block-reads.Post
   enum-known-r c = search needs
@@ -65,8 +66,8 @@ module _ (t : ℕ) where
   pub statements-requires : lts.Need-statements-requires cs (block-at t) block-reads.Post
   statements-requires c κs =
       let h = taken (c .before .before .before .before .before .before .before .statement .ensures) (c .before .before .before .r .given .1) in (
-        omega (arith, c .before .before .before .before .before .before .before .before .before .before .before .before .before .before .before .pre .0, on-step _ _ (c .before .before .before .before .before .before .before .before .before .before .before .before .iterate .ensures), on-step _ _ (c .before .before .before .before .before .before .before .before .before .before .before .iterate2 .ensures), h .stands .on, on-step _ _ (c .before .iterate3 .ensures)),
-        (ready-step _ _ (c .before .iterate3 .ensures) (ready-same (c .before .before .before .before .before .before .before .before .before .before .before .before .before .before .before .pre .1) (c .before .before .before .before .before .before .before .statement .kept .1 .0) (h .stands .within)), omega (arith, h .stands .front .fit, c .before .before .before .before .before .before .before .statement .kept .1 .0)),
+        falls _ _ _ _ _ _ _ (c .before .before .before .before .before .before .before .before .before .before .before .before .before .before .before .pre .0) (le-trans (on-step _ _ (c .before .before .before .before .before .before .before .before .before .before .before .before .iterate .ensures)) (le-trans (on-step _ _ (c .before .before .before .before .before .before .before .before .before .before .before .iterate2 .ensures)) (le-trans (h .stands .on) (on-step _ _ (c .before .iterate3 .ensures))))) (lit< tt),
+        (ready-step _ _ (c .before .iterate3 .ensures) (ready-same (c .before .before .before .before .before .before .before .before .before .before .before .before .before .before .before .pre .1) (c .before .before .before .before .before .before .before .statement .kept .1 .0) (h .stands .within)), front-le (h .stands .front)),
       )
 
   pub enum-known-q : lts.Need-enum-known-q cs (block-at t) block-reads.Post
@@ -83,7 +84,7 @@ module _ (t : ℕ) where
   returns-3 c = let h = taken (c .before .before .before .before .before .before .before .before .before .before .before .before .statement .ensures) (c .before .before .before .before .before .before .before .before .r .given .1) in rw (← (c .before .before .before .before .before .before .before .before .before .before .before .before .before .before .before .before .before .iterate .ensures)) (by-eq (choose-false _ _ (sym (c .before .before .before .before .before .before .before .before .before .before .before .before .before .before .before .next-symbol-is .ensures) ∙ c .before .before .before .before .before .before .before .before .before .before .before .before .before .before .if1 .left)) (rw (← (c .before .before .before .before .before .before .before .before .before .before .before .before .before .before .before .before .iterate2 .ensures)) (by-eq (then-read _ (h .eq)) (rw (← (c .before .before .before .before .before .before .iterate3 .ensures)) (pass _ (c .before .before .before .before .statements .ensures .1 _ _ _ _ (stands-step _ _ (c .before .before .before .before .before .before .iterate3 .ensures) (h .stands)) (h .head)) (c .enum-told2 .given .1))))))
 
   pub put-row-requires-2 : lts.Need-put-row-requires-2 cs (block-at t) block-reads.Post
-  put-row-requires-2 c κs = (omega (arith, c .before .before .before .before .before .before .before .before .before .before .before .before .before .before .before .before .before .before .before .before .before .before .pre .1 .fits, c .before .before .before .before .before .before .statements .kept .1 .0, c .before .before .before .before .before .before .before .before .before .before .before .before .before .before .statement .kept .1 .0), omega (arith, within-step _ _ (c .before .before .before .before .before .before .before .before .before .before .before .before .before .before .before .before .before .before .before .iterate .ensures) (c .before .before .before .before .before .before .before .before .before .before .before .before .before .before .before .before .before .before .before .before .before .before .pre .1 .within), c .before .before .before .before .before .before .before .before .before .before .before .before .before .before .before .before .before .before .before .before .before .before .pre .1 .sound .few))
+  put-row-requires-2 c κs = (fits-same _ _ _ (c .before .before .before .before .before .before .before .before .before .before .before .before .before .before .before .before .before .before .before .before .before .before .pre .1 .fits) (c .before .before .before .before .before .before .statements .kept .1 .0 ∙ c .before .before .before .before .before .before .before .before .before .before .before .before .before .before .statement .kept .1 .0), omega (arith, within-step _ _ (c .before .before .before .before .before .before .before .before .before .before .before .before .before .before .before .before .before .before .before .iterate .ensures) (c .before .before .before .before .before .before .before .before .before .before .before .before .before .before .before .before .before .before .before .before .before .before .pre .1 .within), c .before .before .before .before .before .before .before .before .before .before .before .before .before .before .before .before .before .before .before .before .before .before .pre .1 .sound .few))
 
   pub same-length-4 : lts.Need-same-length-4 cs (block-at t) block-reads.Post
   same-length-4 c = c .before .before .put-row2 .kept .0 ∙ c .before .before .before .before .before .before .before .before .before .statements .kept .1 .0 ∙ c .before .before .before .before .before .before .before .before .before .before .before .before .before .before .before .before .before .statement .kept .1 .0

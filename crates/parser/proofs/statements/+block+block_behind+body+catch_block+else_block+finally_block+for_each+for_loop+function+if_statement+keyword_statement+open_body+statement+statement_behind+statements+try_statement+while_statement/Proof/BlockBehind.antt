@@ -1,10 +1,12 @@
 -- `block_behind` meets its contract: a block in the part that is lent from the first free row on.
+use lib.Dec.{lit<}
 use Prim.Native.Nat.{ℕ}
 use native.Mathlib.Omega.{arith}
 use Rattle.grammar.specs.Expressions.{expression}
 use Rattle.grammar.specs.Statements.{statement, block}
 use Rattle.parser.proofs.Answers.{taken, bounded-tree, bounded-told}
 use Rattle.parser.proofs.Parts.{ready-lent, in-part, back-read, back-refused, back-same, part-length}
+use Rattle.parser.proofs.Moves.{falls, le-refl}
 use borrow.Author.Needs.{needs}
 use Rattle.parser.proofs.statements.block_behind.Reads as block-behind-reads
 use Rattle.parser.proofs.statements.block.Reads as block-reads
@@ -34,7 +36,7 @@ module _ (t : ℕ) where
   add-block c = omega (arith, c .before .before .before .pre .1 .1, c .before .before .before .pre .1 .0 .fits)
 
   pub block-requires : lts.Need-block-requires cs (block-behind-at t) block-behind-reads.Post
-  block-requires c κs = (omega (arith, c .before .before .before .pre .0), ready-lent (c .before .before .before .args .rows) (c .before .before .before .pre .1 .0) (c .before .before .before .pre .1 .1))
+  block-requires c κs = (falls _ _ _ _ _ _ _ (c .before .before .before .pre .0) (le-refl _) (lit< tt), ready-lent (c .before .before .before .args .rows) (c .before .before .before .pre .1 .0) (c .before .before .before .pre .1 .1))
 
   pub enum-known-r : lts.Need-enum-known-r cs (block-behind-at t) block-behind-reads.Post
   enum-known-r c = search needs

@@ -1,10 +1,11 @@
 -- `catch_block` meets its contract: an opening brace that comes next, and the block.
+use lib.Dec.{lit<}
 use mathlib.Core.Path.{sym, _∙_}
 use Prim.Native.Nat.{ℕ}
-use native.Mathlib.Omega.{arith}
 use borrow.Author.Tests.{not-true, not-false}
 use Rattle.parser.specs.Contracts.{braced}
 use Rattle.parser.proofs.Answers.{by-eq, refuses, need-met, need-failed, bounded-refused}
+use Rattle.parser.proofs.Moves.{falls, le-refl}
 use borrow.Author.Needs.{needs}
 use Rattle.parser.proofs.statements.block_behind.Reads as block-behind-reads
 use Rattle.parser.proofs.statements.catch_block.Reads as catch-block-reads
@@ -24,7 +25,7 @@ module _ (t : ℕ) where
   returns c = (bounded-refused _ _, λ from slots zs left s. refuses _ _ _ (need-failed _ _ _ (sym (c .before .next-symbol-is .ensures) ∙ not-true _ (c .if1 .taken))))
 
   pub block-behind-requires : lts.Need-block-behind-requires cs (catch-block-at t) catch-block-reads.Post
-  block-behind-requires c κs = (omega (arith, c .before .before .before .before .before .pre .0), c .before .before .before .before .before .pre .1)
+  block-behind-requires c κs = (falls _ _ _ _ _ _ _ (c .before .before .before .before .before .pre .0) (le-refl _) (lit< tt), c .before .before .before .before .before .pre .1)
 
   pub same-length : lts.Need-same-length cs (catch-block-at t) catch-block-reads.Post
   same-length c = c .before .before .block-behind .kept .1 .0

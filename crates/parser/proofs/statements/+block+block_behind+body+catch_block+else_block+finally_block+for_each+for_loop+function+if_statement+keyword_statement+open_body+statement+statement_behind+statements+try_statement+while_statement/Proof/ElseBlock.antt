@@ -1,11 +1,12 @@
 -- `else_block` meets its contract: the block of an else, or none.
+use lib.Dec.{lit<}
 use mathlib.Core.Path.{refl, sym, _∙_}
 use Prim.Native.Nat.{ℕ}
 use native.Mathlib.Omega.{arith}
 use borrow.Author.Tests.{not-true, not-false}
 use Rattle.grammar.specs.Statements.{else}
 use Rattle.parser.proofs.Answers.{by-eq, refuses, need-met, need-failed, choose-true, choose-false, bounded-tree, bounded-refused, later, read-nothing}
-use Rattle.parser.proofs.Moves.{on-step, stands-step, ready-step}
+use Rattle.parser.proofs.Moves.{falls, on-step, ready-step, stands-step}
 use Rattle.parser.proofs.Lists.{as-list}
 use borrow.Author.Needs.{needs}
 use Rattle.parser.proofs.statements.block_behind.Reads as block-behind-reads
@@ -42,7 +43,7 @@ module _ (t : ℕ) where
       (bounded-refused _ _, λ from slots zs left s. by-eq (choose-true _ _ (sym (c .before .before .before .before .next-keyword-is .ensures) ∙ not-false _ (c .before .before .before .if1 .left))) (rw (← (c .before .before .iterate .ensures)) (refuses _ _ _ (need-failed _ _ _ (sym (c .before .next-symbol-is .ensures) ∙ not-true _ (c .if2 .taken))))))
 
   pub block-behind-requires : lts.Need-block-behind-requires cs (else-block-at t) else-block-reads.Post
-  block-behind-requires c κs = (omega (arith, c .before .before .before .before .before .before .before .before .pre .0, on-step _ _ (c .before .before .before .iterate .ensures)), (ready-step _ _ (c .before .before .before .iterate .ensures) (c .before .before .before .before .before .before .before .before .pre .1 .0), c .before .before .before .before .before .before .before .before .pre .1 .1))
+  block-behind-requires c κs = (falls _ _ _ _ _ _ _ (c .before .before .before .before .before .before .before .before .pre .0) (on-step _ _ (c .before .before .before .iterate .ensures)) (lit< tt), (ready-step _ _ (c .before .before .before .iterate .ensures) (c .before .before .before .before .before .before .before .before .pre .1 .0), c .before .before .before .before .before .before .before .before .pre .1 .1))
 
   pub same-length : lts.Need-same-length cs (else-block-at t) else-block-reads.Post
   same-length c = c .before .before .block-behind .kept .1 .0

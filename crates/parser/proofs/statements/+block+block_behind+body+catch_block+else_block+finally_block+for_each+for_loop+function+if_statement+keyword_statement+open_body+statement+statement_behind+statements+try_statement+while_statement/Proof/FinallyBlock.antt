@@ -1,11 +1,12 @@
 -- `finally_block` meets its contract: the block of a finally, or none.
+use lib.Dec.{lit<}
 use mathlib.Core.Path.{refl, sym, _∙_}
 use Prim.Native.Nat.{ℕ}
 use native.Mathlib.Omega.{arith}
 use borrow.Author.Tests.{not-true, not-false}
 use Rattle.grammar.specs.Statements.{finally}
 use Rattle.parser.proofs.Answers.{by-eq, choose-true, choose-false, bounded-tree, later, read-nothing}
-use Rattle.parser.proofs.Moves.{on-step, stands-step, ready-step}
+use Rattle.parser.proofs.Moves.{falls, on-step, ready-step, stands-step}
 use Rattle.parser.proofs.Lists.{as-list}
 use borrow.Author.Needs.{needs}
 use Rattle.parser.proofs.statements.block_behind.Reads as block-behind-reads
@@ -33,7 +34,7 @@ module _ (t : ℕ) where
   iterate-requires c κs = search needs
 
   pub block-behind-requires : lts.Need-block-behind-requires cs (finally-block-at t) finally-block-reads.Post
-  block-behind-requires c κs = (omega (arith, c .before .before .before .before .before .before .pre .0, on-step _ _ (c .iterate .ensures)), (ready-step _ _ (c .iterate .ensures) (c .before .before .before .before .before .before .pre .1 .0), c .before .before .before .before .before .before .pre .1 .1))
+  block-behind-requires c κs = (falls _ _ _ _ _ _ _ (c .before .before .before .before .before .before .pre .0) (on-step _ _ (c .iterate .ensures)) (lit< tt), (ready-step _ _ (c .iterate .ensures) (c .before .before .before .before .before .before .pre .1 .0), c .before .before .before .before .before .before .pre .1 .1))
 
   pub same-length : lts.Need-same-length cs (finally-block-at t) finally-block-reads.Post
   same-length c = c .before .before .block-behind .kept .1 .0

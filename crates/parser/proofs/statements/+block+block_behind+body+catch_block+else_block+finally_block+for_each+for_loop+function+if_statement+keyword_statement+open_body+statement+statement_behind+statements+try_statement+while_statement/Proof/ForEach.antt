@@ -1,14 +1,14 @@
 -- `for_each` meets its contract: what it runs over, an index, an element, and the body behind them.
+use lib.Dec.{lit<}
 use mathlib.Core.Path.{sym, _∙_}
 use mathlib.Core.List.{[]}
 use Prim.Native.Nat.{ℕ}
-use native.Mathlib.Omega.{arith}
 use Rattle.grammar.specs.Expressions.{expression}
 use Rattle.grammar.specs.Statements.{statement, block, foreach}
 use Rattle.parser.specs.Meets.{of-node}
 use Rattle.parser.proofs.Answers.{taken, pass, by-eq, then-read, sooner}
 use Rattle.parser.proofs.Bodies.{sign-then, open-then}
-use Rattle.parser.proofs.Moves.{on-step, ready-step, ready-same, small}
+use Rattle.parser.proofs.Moves.{falls, fits-same, front-le, le-trans, on-step, ready-same, ready-step, small}
 use borrow.Author.Needs.{needs}
 use Rattle.parser.proofs.simple.behind_sign.Reads as behind-sign-reads
 use Rattle.parser.proofs.expressions.expression.Reads as expression-reads
@@ -43,7 +43,7 @@ module _ (t : ℕ) where
   returns c = rw (← (c .before .before .before .before .before .iterate .ensures)) (pass _ (c .before .before .before .before .expression .ensures) (c .enum-told .given .1))
 
   pub behind-sign-requires : lts.Need-behind-sign-requires cs (for-each-at t) for-each-reads.Post
-  behind-sign-requires c κs = let h = taken (c .before .before .before .before .before .before .expression .ensures) (c .before .before .r0 .given .1) in (ready-same (c .before .before .before .before .before .before .before .before .before .before .before .pre .1) (c .before .before .before .before .before .before .expression .kept .1 .0) (h .stands .within), omega (arith, h .stands .front .fit, c .before .before .before .before .before .before .expression .kept .1 .0))
+  behind-sign-requires c κs = let h = taken (c .before .before .before .before .before .before .expression .ensures) (c .before .before .r0 .given .1) in (ready-same (c .before .before .before .before .before .before .before .before .before .before .before .pre .1) (c .before .before .before .before .before .before .expression .kept .1 .0) (h .stands .within), front-le (h .stands .front))
 
   pub enum-known-r1 : lts.Need-enum-known-r1 cs (for-each-at t) for-each-reads.Post
   enum-known-r1 c = search needs
@@ -59,7 +59,7 @@ module _ (t : ℕ) where
   returns-2 c = let h = taken (c .before .before .before .before .before .before .before .before .before .before .before .expression .ensures) (c .before .before .before .before .before .before .before .r0 .given .1) in rw (← (c .before .before .before .before .before .before .before .before .before .before .before .before .iterate .ensures)) (by-eq (then-read _ (h .eq) ∙ sym (sign-then (c .before .before .before .before .before .before .before .before .before .before .before .before .before .before .before .before .args .tokens .now) _ _ _ (expression (c .before .before .before .before .before .before .before .before .before .before .before .before .before .before .before .before .args .tokens .now) (c .before .before .before .before .before .before .before .before .before .before .before .before .before .before .before .before .args .less)) _ _)) (pass _ (c .before .before .before .before .behind-sign .ensures .1 _ _ _ _ (h .stands)) (c .enum-told2 .given .1)))
 
   pub behind-sign-requires-2 : lts.Need-behind-sign-requires-2 cs (for-each-at t) for-each-reads.Post
-  behind-sign-requires-2 c κs = let h = taken (c .before .before .before .before .before .before .before .before .before .before .before .before .before .expression .ensures) (c .before .before .before .before .before .before .before .before .before .r0 .given .1) in let q = taken (c .before .before .before .before .before .before .behind-sign .ensures .1 _ _ _ _ (h .stands)) (c .before .before .r1 .given .1) in (ready-same (c .before .before .before .before .before .before .before .before .before .before .before .before .before .before .before .before .before .before .pre .1) (c .before .before .before .before .before .before .behind-sign .kept .1 .0 ∙ c .before .before .before .before .before .before .before .before .before .before .before .before .before .expression .kept .1 .0) (q .stands .within), omega (arith, q .stands .front .fit, c .before .before .before .before .before .before .behind-sign .kept .1 .0 ∙ c .before .before .before .before .before .before .before .before .before .before .before .before .before .expression .kept .1 .0))
+  behind-sign-requires-2 c κs = let h = taken (c .before .before .before .before .before .before .before .before .before .before .before .before .before .expression .ensures) (c .before .before .before .before .before .before .before .before .before .r0 .given .1) in let q = taken (c .before .before .before .before .before .before .behind-sign .ensures .1 _ _ _ _ (h .stands)) (c .before .before .r1 .given .1) in (ready-same (c .before .before .before .before .before .before .before .before .before .before .before .before .before .before .before .before .before .before .pre .1) (c .before .before .before .before .before .before .behind-sign .kept .1 .0 ∙ c .before .before .before .before .before .before .before .before .before .before .before .before .before .expression .kept .1 .0) (q .stands .within), front-le (q .stands .front))
 
   pub enum-known-r2 : lts.Need-enum-known-r2 cs (for-each-at t) for-each-reads.Post
   enum-known-r2 c = search needs
@@ -79,7 +79,7 @@ module _ (t : ℕ) where
       let h = taken (c .before .before .before .before .before .before .before .before .before .before .before .before .before .before .before .before .before .before .before .before .expression .ensures) (c .before .before .before .before .before .before .before .before .before .before .before .before .before .before .before .before .r0 .given .1) in
       let q = taken (c .before .before .before .before .before .before .before .before .before .before .before .before .before .behind-sign .ensures .1 _ _ _ _ (h .stands)) (c .before .before .before .before .before .before .before .before .before .r1 .given .1) in
       let v = taken (c .before .before .before .before .before .before .behind-sign2 .ensures .1 _ _ _ _ (q .stands)) (c .before .before .r2 .given .1) in
-      (omega (arith, c .before .before .before .before .before .before .before .before .before .before .before .before .before .before .before .before .before .before .before .before .before .before .before .before .before .pre .0, v .stands .on, on-step _ _ (c .before .before .before .before .before .before .before .before .before .before .before .before .before .before .before .before .before .before .before .before .before .iterate .ensures)), (ready-same (c .before .before .before .before .before .before .before .before .before .before .before .before .before .before .before .before .before .before .before .before .before .before .before .before .before .pre .1) (c .before .before .before .before .before .before .behind-sign2 .kept .1 .0 ∙ c .before .before .before .before .before .before .before .before .before .before .before .before .before .behind-sign .kept .1 .0 ∙ c .before .before .before .before .before .before .before .before .before .before .before .before .before .before .before .before .before .before .before .before .expression .kept .1 .0) (v .stands .within), omega (arith, v .stands .front .fit, c .before .before .before .before .before .before .behind-sign2 .kept .1 .0 ∙ c .before .before .before .before .before .before .before .before .before .before .before .before .before .behind-sign .kept .1 .0 ∙ c .before .before .before .before .before .before .before .before .before .before .before .before .before .before .before .before .before .before .before .before .expression .kept .1 .0)))
+      (falls _ _ _ _ _ _ _ (c .before .before .before .before .before .before .before .before .before .before .before .before .before .before .before .before .before .before .before .before .before .before .before .before .before .pre .0) (le-trans (on-step _ _ (c .before .before .before .before .before .before .before .before .before .before .before .before .before .before .before .before .before .before .before .before .before .iterate .ensures)) (v .stands .on)) (lit< tt), (ready-same (c .before .before .before .before .before .before .before .before .before .before .before .before .before .before .before .before .before .before .before .before .before .before .before .before .before .pre .1) (c .before .before .before .before .before .before .behind-sign2 .kept .1 .0 ∙ c .before .before .before .before .before .before .before .before .before .before .before .before .before .behind-sign .kept .1 .0 ∙ c .before .before .before .before .before .before .before .before .before .before .before .before .before .before .before .before .before .before .before .before .expression .kept .1 .0) (v .stands .within), front-le (v .stands .front)))
 
   pub enum-known-r3 : lts.Need-enum-known-r3 cs (for-each-at t) for-each-reads.Post
   enum-known-r3 c = search needs
@@ -95,7 +95,7 @@ module _ (t : ℕ) where
   returns-4 c = let h = taken (c .before .before .before .before .before .before .before .before .before .before .before .before .before .before .before .before .before .before .before .before .before .before .before .before .before .expression .ensures) (c .before .before .before .before .before .before .before .before .before .before .before .before .before .before .before .before .before .before .before .before .before .r0 .given .1) in let q = taken (c .before .before .before .before .before .before .before .before .before .before .before .before .before .before .before .before .before .before .behind-sign .ensures .1 _ _ _ _ (h .stands)) (c .before .before .before .before .before .before .before .before .before .before .before .before .before .before .r1 .given .1) in let v = taken (c .before .before .before .before .before .before .before .before .before .before .before .behind-sign2 .ensures .1 _ _ _ _ (q .stands)) (c .before .before .before .before .before .before .before .r2 .given .1) in rw (← (c .before .before .before .before .before .before .before .before .before .before .before .before .before .before .before .before .before .before .before .before .before .before .before .before .before .before .iterate .ensures)) (by-eq (then-read _ (h .eq) ∙ sym (sign-then (c .before .before .before .before .before .before .before .before .before .before .before .before .before .before .before .before .before .before .before .before .before .before .before .before .before .before .before .before .before .before .args .tokens .now) _ _ _ (expression (c .before .before .before .before .before .before .before .before .before .before .before .before .before .before .before .before .before .before .before .before .before .before .before .before .before .before .before .before .before .before .args .tokens .now) (c .before .before .before .before .before .before .before .before .before .before .before .before .before .before .before .before .before .before .before .before .before .before .before .before .before .before .before .before .before .before .args .less)) _ _) ∙ then-read _ (q .eq) ∙ sym (sign-then (c .before .before .before .before .before .before .before .before .before .before .before .before .before .before .before .before .before .before .before .before .before .before .before .before .before .before .before .before .before .before .args .tokens .now) _ _ _ (expression (c .before .before .before .before .before .before .before .before .before .before .before .before .before .before .before .before .before .before .before .before .before .before .before .before .before .before .before .before .before .before .args .tokens .now) (c .before .before .before .before .before .before .before .before .before .before .before .before .before .before .before .before .before .before .before .before .before .before .before .before .before .before .before .before .before .before .args .less)) _ _) ∙ then-read _ (v .eq) ∙ sym (open-then (c .before .before .before .before .before .before .before .before .before .before .before .before .before .before .before .before .before .before .before .before .before .before .before .before .before .before .before .before .before .before .args .tokens .now) _ _ _ (block (c .before .before .before .before .before .before .before .before .before .before .before .before .before .before .before .before .before .before .before .before .before .before .before .before .before .before .before .before .before .before .args .tokens .now) (expression (c .before .before .before .before .before .before .before .before .before .before .before .before .before .before .before .before .before .before .before .before .before .before .before .before .before .before .before .before .before .before .args .tokens .now) (c .before .before .before .before .before .before .before .before .before .before .before .before .before .before .before .before .before .before .before .before .before .before .before .before .before .before .before .before .before .before .args .less)) (statement (c .before .before .before .before .before .before .before .before .before .before .before .before .before .before .before .before .before .before .before .before .before .before .before .before .before .before .before .before .before .before .args .tokens .now) (c .before .before .before .before .before .before .before .before .before .before .before .before .before .before .before .before .before .before .before .before .before .before .before .before .before .before .before .before .before .before .args .less))) _)) (pass _ (c .before .before .before .before .open-body .ensures .1 _ _ _ _ (v .stands)) (c .enum-told4 .given .1)))
 
   pub put-row-requires : lts.Need-put-row-requires cs (for-each-at t) for-each-reads.Post
-  put-row-requires c κs = (omega (arith, c .before .before .before .before .before .before .before .before .before .before .before .before .before .before .before .before .before .before .before .before .before .before .before .before .before .before .before .before .before .before .before .before .pre .1 .fits, c .before .before .before .before .before .before .open-body .kept .1 .0 ∙ c .before .before .before .before .before .before .before .before .before .before .before .before .before .behind-sign2 .kept .1 .0 ∙ c .before .before .before .before .before .before .before .before .before .before .before .before .before .before .before .before .before .before .before .before .behind-sign .kept .1 .0 ∙ c .before .before .before .before .before .before .before .before .before .before .before .before .before .before .before .before .before .before .before .before .before .before .before .before .before .before .before .expression .kept .1 .0), small (c .before .before .before .before .before .before .before .before .before .before .before .before .before .before .before .before .before .before .before .before .before .before .before .before .before .before .before .before .before .before .before .before .pre .1))
+  put-row-requires c κs = (fits-same _ _ _ (c .before .before .before .before .before .before .before .before .before .before .before .before .before .before .before .before .before .before .before .before .before .before .before .before .before .before .before .before .before .before .before .before .pre .1 .fits) (c .before .before .before .before .before .before .open-body .kept .1 .0 ∙ c .before .before .before .before .before .before .before .before .before .before .before .before .before .behind-sign2 .kept .1 .0 ∙ c .before .before .before .before .before .before .before .before .before .before .before .before .before .before .before .before .before .before .before .before .behind-sign .kept .1 .0 ∙ c .before .before .before .before .before .before .before .before .before .before .before .before .before .before .before .before .before .before .before .before .before .before .before .before .before .before .before .expression .kept .1 .0), small (c .before .before .before .before .before .before .before .before .before .before .before .before .before .before .before .before .before .before .before .before .before .before .before .before .before .before .before .before .before .before .before .before .pre .1))
 
   pub same-length-5 : lts.Need-same-length-5 cs (for-each-at t) for-each-reads.Post
   same-length-5 c = c .before .before .put-row .kept .0 ∙ c .before .before .before .before .before .before .before .before .before .open-body .kept .1 .0 ∙ c .before .before .before .before .before .before .before .before .before .before .before .before .before .before .before .before .behind-sign2 .kept .1 .0 ∙ c .before .before .before .before .before .before .before .before .before .before .before .before .before .before .before .before .before .before .before .before .before .before .before .behind-sign .kept .1 .0 ∙ c .before .before .before .before .before .before .before .before .before .before .before .before .before .before .before .before .before .before .before .before .before .before .before .before .before .before .before .before .before .before .expression .kept .1 .0

@@ -1,14 +1,14 @@
 -- `for_loop` meets its contract: a target, what it runs over, and the body behind them.
+use lib.Dec.{lit<}
 use mathlib.Core.Path.{refl, sym, _∙_}
 use mathlib.Core.List.{[]}
 use Prim.Native.Nat.{ℕ}
-use native.Mathlib.Omega.{arith}
 use Rattle.grammar.specs.Expressions.{expression}
 use Rattle.grammar.specs.Statements.{statement, block, for}
 use Rattle.parser.specs.Meets.{of-node}
 use Rattle.parser.proofs.Answers.{taken, pass, by-eq, then-read, sooner}
 use Rattle.parser.proofs.Bodies.{sign-then, body-then}
-use Rattle.parser.proofs.Moves.{on-step, ready-step, ready-same, small}
+use Rattle.parser.proofs.Moves.{falls, fits-same, front-le, le-trans, on-step, ready-same, ready-step, small}
 use borrow.Author.Needs.{needs}
 use Rattle.parser.proofs.simple.behind_sign.Reads as behind-sign-reads
 use Rattle.parser.proofs.statements.body.Reads as body-reads
@@ -43,7 +43,7 @@ module _ (t : ℕ) where
   returns c = rw (← (c .before .before .before .before .before .iterate .ensures)) (pass _ (c .before .before .before .before .expression .ensures) (c .enum-told .given .1))
 
   pub behind-sign-requires : lts.Need-behind-sign-requires cs (for-loop-at t) for-loop-reads.Post
-  behind-sign-requires c κs = let h = taken (c .before .before .before .before .before .before .expression .ensures) (c .before .before .r0 .given .1) in (ready-same (c .before .before .before .before .before .before .before .before .before .before .before .pre .1) (c .before .before .before .before .before .before .expression .kept .1 .0) (h .stands .within), omega (arith, h .stands .front .fit, c .before .before .before .before .before .before .expression .kept .1 .0))
+  behind-sign-requires c κs = let h = taken (c .before .before .before .before .before .before .expression .ensures) (c .before .before .r0 .given .1) in (ready-same (c .before .before .before .before .before .before .before .before .before .before .before .pre .1) (c .before .before .before .before .before .before .expression .kept .1 .0) (h .stands .within), front-le (h .stands .front))
 
   pub enum-known-r1 : lts.Need-enum-known-r1 cs (for-loop-at t) for-loop-reads.Post
   enum-known-r1 c = search needs
@@ -62,7 +62,7 @@ module _ (t : ℕ) where
   body-requires c κs =
       let h = taken (c .before .before .before .before .before .before .before .before .before .before .before .before .before .expression .ensures) (c .before .before .before .before .before .before .before .before .before .r0 .given .1) in
       let q = taken (c .before .before .before .before .before .before .behind-sign .ensures .1 _ _ _ _ (h .stands)) (c .before .before .r1 .given .1) in
-      (omega (arith, c .before .before .before .before .before .before .before .before .before .before .before .before .before .before .before .before .before .before .pre .0, q .stands .on, on-step _ _ (c .before .before .before .before .before .before .before .before .before .before .before .before .before .before .iterate .ensures)), (ready-same (c .before .before .before .before .before .before .before .before .before .before .before .before .before .before .before .before .before .before .pre .1) (c .before .before .before .before .before .before .behind-sign .kept .1 .0 ∙ c .before .before .before .before .before .before .before .before .before .before .before .before .before .expression .kept .1 .0) (q .stands .within), omega (arith, q .stands .front .fit, c .before .before .before .before .before .before .behind-sign .kept .1 .0 ∙ c .before .before .before .before .before .before .before .before .before .before .before .before .before .expression .kept .1 .0)))
+      (falls _ _ _ _ _ _ _ (c .before .before .before .before .before .before .before .before .before .before .before .before .before .before .before .before .before .before .pre .0) (le-trans (on-step _ _ (c .before .before .before .before .before .before .before .before .before .before .before .before .before .before .iterate .ensures)) (q .stands .on)) (lit< tt), (ready-same (c .before .before .before .before .before .before .before .before .before .before .before .before .before .before .before .before .before .before .pre .1) (c .before .before .before .before .before .before .behind-sign .kept .1 .0 ∙ c .before .before .before .before .before .before .before .before .before .before .before .before .before .expression .kept .1 .0) (q .stands .within), front-le (q .stands .front)))
 
   pub enum-known-r2 : lts.Need-enum-known-r2 cs (for-loop-at t) for-loop-reads.Post
   enum-known-r2 c = search needs
@@ -78,7 +78,7 @@ module _ (t : ℕ) where
   returns-3 c = let h = taken (c .before .before .before .before .before .before .before .before .before .before .before .before .before .before .before .before .before .before .expression .ensures) (c .before .before .before .before .before .before .before .before .before .before .before .before .before .before .r0 .given .1) in let q = taken (c .before .before .before .before .before .before .before .before .before .before .before .behind-sign .ensures .1 _ _ _ _ (h .stands)) (c .before .before .before .before .before .before .before .r1 .given .1) in rw (← (c .before .before .before .before .before .before .before .before .before .before .before .before .before .before .before .before .before .before .before .iterate .ensures)) (by-eq (then-read _ (h .eq) ∙ sym (sign-then (c .before .before .before .before .before .before .before .before .before .before .before .before .before .before .before .before .before .before .before .before .before .before .before .args .tokens .now) _ _ _ (expression (c .before .before .before .before .before .before .before .before .before .before .before .before .before .before .before .before .before .before .before .before .before .before .before .args .tokens .now) (c .before .before .before .before .before .before .before .before .before .before .before .before .before .before .before .before .before .before .before .before .before .before .before .args .less)) _ _) ∙ then-read _ (q .eq) ∙ sym (body-then (c .before .before .before .before .before .before .before .before .before .before .before .before .before .before .before .before .before .before .before .before .before .before .before .args .tokens .now) _ _ _ (block (c .before .before .before .before .before .before .before .before .before .before .before .before .before .before .before .before .before .before .before .before .before .before .before .args .tokens .now) (expression (c .before .before .before .before .before .before .before .before .before .before .before .before .before .before .before .before .before .before .before .before .before .before .before .args .tokens .now) (c .before .before .before .before .before .before .before .before .before .before .before .before .before .before .before .before .before .before .before .before .before .before .before .args .less)) (statement (c .before .before .before .before .before .before .before .before .before .before .before .before .before .before .before .before .before .before .before .before .before .before .before .args .tokens .now) (c .before .before .before .before .before .before .before .before .before .before .before .before .before .before .before .before .before .before .before .before .before .before .before .args .less))) _ _ _)) (pass _ (c .before .before .before .before .body .ensures .1 _ _ _ _ (q .stands)) (c .enum-told3 .given .1)))
 
   pub put-row-requires : lts.Need-put-row-requires cs (for-loop-at t) for-loop-reads.Post
-  put-row-requires c κs = (omega (arith, c .before .before .before .before .before .before .before .before .before .before .before .before .before .before .before .before .before .before .before .before .before .before .before .before .before .pre .1 .fits, c .before .before .before .before .before .before .body .kept .1 .0 ∙ c .before .before .before .before .before .before .before .before .before .before .before .before .before .behind-sign .kept .1 .0 ∙ c .before .before .before .before .before .before .before .before .before .before .before .before .before .before .before .before .before .before .before .before .expression .kept .1 .0), small (c .before .before .before .before .before .before .before .before .before .before .before .before .before .before .before .before .before .before .before .before .before .before .before .before .before .pre .1))
+  put-row-requires c κs = (fits-same _ _ _ (c .before .before .before .before .before .before .before .before .before .before .before .before .before .before .before .before .before .before .before .before .before .before .before .before .before .pre .1 .fits) (c .before .before .before .before .before .before .body .kept .1 .0 ∙ c .before .before .before .before .before .before .before .before .before .before .before .before .before .behind-sign .kept .1 .0 ∙ c .before .before .before .before .before .before .before .before .before .before .before .before .before .before .before .before .before .before .before .before .expression .kept .1 .0), small (c .before .before .before .before .before .before .before .before .before .before .before .before .before .before .before .before .before .before .before .before .before .before .before .before .before .pre .1))
 
   pub same-length-4 : lts.Need-same-length-4 cs (for-loop-at t) for-loop-reads.Post
   same-length-4 c = c .before .before .put-row .kept .0 ∙ c .before .before .before .before .before .before .before .before .before .body .kept .1 .0 ∙ c .before .before .before .before .before .before .before .before .before .before .before .before .before .before .before .before .behind-sign .kept .1 .0 ∙ c .before .before .before .before .before .before .before .before .before .before .before .before .before .before .before .before .before .before .before .before .before .before .before .expression .kept .1 .0

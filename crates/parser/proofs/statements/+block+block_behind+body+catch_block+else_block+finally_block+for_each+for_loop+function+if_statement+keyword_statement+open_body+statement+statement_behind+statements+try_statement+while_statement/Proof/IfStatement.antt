@@ -1,8 +1,8 @@
 -- `if_statement` meets its contract: the condition in brackets, the body behind it, and the block of an else or none.
+use lib.Dec.{lit<}
 use mathlib.Core.Path.{refl, sym, ap, _∙_}
 use mathlib.Core.List.{[]}
 use Prim.Native.Nat.{ℕ}
-use native.Mathlib.Omega.{arith}
 use borrow.Author.Tests.{not-true, not-false}
 use Rattle.grammar.specs.Parsed.{refused}
 use Rattle.grammar.specs.Expressions.{expression}
@@ -10,7 +10,7 @@ use Rattle.grammar.specs.Statements.{statement, block, if}
 use Rattle.parser.specs.Meets.{of-node}
 use Rattle.parser.proofs.Answers.{taken, pass, by-eq, refuses, then-read, need-met, need-failed, sooner}
 use Rattle.parser.proofs.Bodies.{body-then}
-use Rattle.parser.proofs.Moves.{le-trans, on-step, ready-step, ready-same, small}
+use Rattle.parser.proofs.Moves.{falls, fits-same, front-le, le-trans, on-step, ready-same, ready-step, small}
 use borrow.Author.Needs.{needs}
 use Rattle.parser.proofs.statements.body.Reads as body-reads
 use Rattle.parser.proofs.statements.else_block.Reads as else-block-reads
@@ -58,7 +58,7 @@ module _ (t : ℕ) where
   pub body-requires : lts.Need-body-requires cs (if-statement-at t) if-statement-reads.Post
   body-requires c κs =
       let h = taken (c .before .before .before .before .before .before .expression .ensures) (c .before .before .r .given .1) in
-      (omega (arith, c .before .before .before .before .before .before .before .before .before .before .before .before .before .before .pre .0, h .stands .on, on-step _ _ (c .before .before .before .before .before .before .before .before .before .before .before .iterate .ensures), on-step _ _ (c .before .before .before .before .before .before .before .iterate2 .ensures)), (ready-same (c .before .before .before .before .before .before .before .before .before .before .before .before .before .before .pre .1) (c .before .before .before .before .before .before .expression .kept .1 .0) (h .stands .within), omega (arith, h .stands .front .fit, c .before .before .before .before .before .before .expression .kept .1 .0)))
+      (falls _ _ _ _ _ _ _ (c .before .before .before .before .before .before .before .before .before .before .before .before .before .before .pre .0) (le-trans (on-step _ _ (c .before .before .before .before .before .before .before .before .before .before .before .iterate .ensures)) (le-trans (on-step _ _ (c .before .before .before .before .before .before .before .iterate2 .ensures)) (h .stands .on))) (lit< tt), (ready-same (c .before .before .before .before .before .before .before .before .before .before .before .before .before .before .pre .1) (c .before .before .before .before .before .before .expression .kept .1 .0) (h .stands .within), front-le (h .stands .front)))
 
   pub enum-known-r1 : lts.Need-enum-known-r1 cs (if-statement-at t) if-statement-reads.Post
   enum-known-r1 c = search needs
@@ -77,7 +77,7 @@ module _ (t : ℕ) where
   else-block-requires c κs =
       let h = taken (c .before .before .before .before .before .before .before .before .before .before .before .before .before .expression .ensures) (c .before .before .before .before .before .before .before .before .before .r .given .1) in
       let q = taken (c .before .before .before .before .before .before .body .ensures .1 _ _ _ _ (h .stands)) (c .before .before .r1 .given .1) in
-      (omega (arith, c .before .before .before .before .before .before .before .before .before .before .before .before .before .before .before .before .before .before .before .before .before .pre .0, q .stands .on, on-step _ _ (c .before .before .before .before .before .before .before .before .before .before .before .before .before .before .before .before .before .before .iterate .ensures), on-step _ _ (c .before .before .before .before .before .before .before .before .before .before .before .before .before .before .iterate2 .ensures)), (ready-same (c .before .before .before .before .before .before .before .before .before .before .before .before .before .before .before .before .before .before .before .before .before .pre .1) (c .before .before .before .before .before .before .body .kept .1 .0 ∙ c .before .before .before .before .before .before .before .before .before .before .before .before .before .expression .kept .1 .0) (q .stands .within), omega (arith, q .stands .front .fit, c .before .before .before .before .before .before .body .kept .1 .0, c .before .before .before .before .before .before .before .before .before .before .before .before .before .expression .kept .1 .0)))
+      (falls _ _ _ _ _ _ _ (c .before .before .before .before .before .before .before .before .before .before .before .before .before .before .before .before .before .before .before .before .before .pre .0) (le-trans (on-step _ _ (c .before .before .before .before .before .before .before .before .before .before .before .before .before .before .before .before .before .before .iterate .ensures)) (le-trans (on-step _ _ (c .before .before .before .before .before .before .before .before .before .before .before .before .before .before .iterate2 .ensures)) (q .stands .on))) (lit< tt), (ready-same (c .before .before .before .before .before .before .before .before .before .before .before .before .before .before .before .before .before .before .before .before .before .pre .1) (c .before .before .before .before .before .before .body .kept .1 .0 ∙ c .before .before .before .before .before .before .before .before .before .before .before .before .before .expression .kept .1 .0) (q .stands .within), front-le (q .stands .front)))
 
   pub enum-known-r2 : lts.Need-enum-known-r2 cs (if-statement-at t) if-statement-reads.Post
   enum-known-r2 c = search needs
@@ -93,7 +93,7 @@ module _ (t : ℕ) where
   returns-4 c = let h = taken (c .before .before .before .before .before .before .before .before .before .before .before .before .before .before .before .before .before .before .expression .ensures) (c .before .before .before .before .before .before .before .before .before .before .before .before .before .before .r .given .1) in let q = taken (c .before .before .before .before .before .before .before .before .before .before .before .body .ensures .1 _ _ _ _ (h .stands)) (c .before .before .before .before .before .before .before .r1 .given .1) in by-eq (need-met _ _ _ (sym (c .before .before .before .before .before .before .before .before .before .before .before .before .before .before .before .before .before .before .before .before .before .before .next-symbol-is .ensures) ∙ not-false _ (c .before .before .before .before .before .before .before .before .before .before .before .before .before .before .before .before .before .before .before .before .before .if1 .left))) (rw (← (c .before .before .before .before .before .before .before .before .before .before .before .before .before .before .before .before .before .before .before .before .before .before .before .iterate .ensures), ← (c .before .before .before .before .before .before .before .before .before .before .before .before .before .before .before .before .before .before .before .iterate2 .ensures)) (by-eq (then-read _ (h .eq) ∙ sym (body-then (c .before .before .before .before .before .before .before .before .before .before .before .before .before .before .before .before .before .before .before .before .before .before .before .before .before .before .args .tokens .now) _ _ _ (block (c .before .before .before .before .before .before .before .before .before .before .before .before .before .before .before .before .before .before .before .before .before .before .before .before .before .before .args .tokens .now) (expression (c .before .before .before .before .before .before .before .before .before .before .before .before .before .before .before .before .before .before .before .before .before .before .before .before .before .before .args .tokens .now) (c .before .before .before .before .before .before .before .before .before .before .before .before .before .before .before .before .before .before .before .before .before .before .before .before .before .before .args .less)) (statement (c .before .before .before .before .before .before .before .before .before .before .before .before .before .before .before .before .before .before .before .before .before .before .before .before .before .before .args .tokens .now) (c .before .before .before .before .before .before .before .before .before .before .before .before .before .before .before .before .before .before .before .before .before .before .before .before .before .before .args .less))) _ _ _) ∙ then-read _ (q .eq)) (pass _ (c .before .before .before .before .else-block .ensures .1 _ _ _ _ (q .stands)) (c .enum-told3 .given .1))))
 
   pub put-row-requires : lts.Need-put-row-requires cs (if-statement-at t) if-statement-reads.Post
-  put-row-requires c κs = (omega (arith, c .before .before .before .before .before .before .before .before .before .before .before .before .before .before .before .before .before .before .before .before .before .before .before .before .before .before .before .before .pre .1 .fits, c .before .before .before .before .before .before .else-block .kept .1 .0, c .before .before .before .before .before .before .before .before .before .before .before .before .before .body .kept .1 .0, c .before .before .before .before .before .before .before .before .before .before .before .before .before .before .before .before .before .before .before .before .expression .kept .1 .0), small (c .before .before .before .before .before .before .before .before .before .before .before .before .before .before .before .before .before .before .before .before .before .before .before .before .before .before .before .before .pre .1))
+  put-row-requires c κs = (fits-same _ _ _ (c .before .before .before .before .before .before .before .before .before .before .before .before .before .before .before .before .before .before .before .before .before .before .before .before .before .before .before .before .pre .1 .fits) (c .before .before .before .before .before .before .else-block .kept .1 .0 ∙ c .before .before .before .before .before .before .before .before .before .before .before .before .before .body .kept .1 .0 ∙ c .before .before .before .before .before .before .before .before .before .before .before .before .before .before .before .before .before .before .before .before .expression .kept .1 .0), small (c .before .before .before .before .before .before .before .before .before .before .before .before .before .before .before .before .before .before .before .before .before .before .before .before .before .before .before .before .pre .1))
 
   pub same-length-4 : lts.Need-same-length-4 cs (if-statement-at t) if-statement-reads.Post
   same-length-4 c = c .before .before .put-row .kept .0 ∙ c .before .before .before .before .before .before .before .before .before .else-block .kept .1 .0 ∙ c .before .before .before .before .before .before .before .before .before .before .before .before .before .before .before .before .body .kept .1 .0 ∙ c .before .before .before .before .before .before .before .before .before .before .before .before .before .before .before .before .before .before .before .before .before .before .before .expression .kept .1 .0

@@ -1,4 +1,5 @@
 -- `keyword_statement` meets its contract: each keyword of a statement has its arm in the definition, and any other begins an expression.
+use lib.Dec.{lit<}
 use mathlib.Core.Path.{_≡_, refl, sym, ap, _∙_}
 use mathlib.Core.Bool.{Bool, true, false, not, _||_, false≢true}
 use mathlib.Core.List.{List, [], _∷_}
@@ -20,7 +21,7 @@ use Rattle.words.proofs.Tests.{but}
 use Rattle.parser.specs.Contracts.{further, closed, around}
 use Rattle.parser.specs.Meets.{of-node}
 use Rattle.parser.proofs.Answers.{at-once, by-eq, refuses, need-met, need-failed, sooner}
-use Rattle.parser.proofs.Moves.{on-step, ready-step, small}
+use Rattle.parser.proofs.Moves.{falls, on-step, ready-step, small}
 use Rattle.parser.proofs.Lists.{plain, by-expression}
 use borrow.Author.Needs.{needs}
 use Rattle.parser.proofs.expressions.around.Reads as around-reads
@@ -140,7 +141,7 @@ module _ (t : ℕ) where
   enum-told-9 c = search needs
 
   pub function-requires : lts.Need-function-requires cs (keyword-statement-at t) keyword-statement-reads.Post
-  function-requires c κs = (omega (arith, c .before .before .before .before .before .before .before .before .pre .0, on-step _ _ (c .before .before .before .before .before .iterate .ensures)), ready-step _ _ (c .before .before .before .before .before .iterate .ensures) (c .before .before .before .before .before .before .before .before .pre .1 .0))
+  function-requires c κs = (falls _ _ _ _ _ _ _ (c .before .before .before .before .before .before .before .before .pre .0) (on-step _ _ (c .before .before .before .before .before .iterate .ensures)) (lit< tt), ready-step _ _ (c .before .before .before .before .before .iterate .ensures) (c .before .before .before .before .before .before .before .before .pre .1 .0))
 
   pub enum-told-10 : lts.Need-enum-told-10 cs (keyword-statement-at t) keyword-statement-reads.Post
   enum-told-10 c = search needs

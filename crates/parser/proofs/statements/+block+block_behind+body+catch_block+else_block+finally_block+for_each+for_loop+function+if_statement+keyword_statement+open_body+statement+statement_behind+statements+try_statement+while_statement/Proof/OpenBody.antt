@@ -1,11 +1,11 @@
 -- `open_body` meets its contract: the sign, and the block after it.
+use lib.Dec.{lit<}
 use mathlib.Core.Path.{refl, sym, _∙_}
 use Prim.Native.Nat.{ℕ}
-use native.Mathlib.Omega.{arith}
 use borrow.Author.Tests.{not-true, not-false}
 use Rattle.parser.specs.Contracts.{open-body}
 use Rattle.parser.proofs.Answers.{by-eq, refuses, need-met, need-failed, bounded-refused, later}
-use Rattle.parser.proofs.Moves.{on-step, stands-step, ready-step}
+use Rattle.parser.proofs.Moves.{falls, on-step, ready-step, stands-step}
 use borrow.Author.Needs.{needs}
 use Rattle.parser.proofs.statements.block_behind.Reads as block-behind-reads
 use Rattle.words.proofs.iterate.Reads as iterate-reads
@@ -29,7 +29,7 @@ module _ (t : ℕ) where
   iterate-requires c κs = search needs
 
   pub block-behind-requires : lts.Need-block-behind-requires cs (open-body-at t) open-body-reads.Post
-  block-behind-requires c κs = (omega (arith, c .before .before .before .before .before .before .pre .0, on-step _ _ (c .iterate .ensures)), (ready-step _ _ (c .iterate .ensures) (c .before .before .before .before .before .before .pre .1 .0), c .before .before .before .before .before .before .pre .1 .1))
+  block-behind-requires c κs = (falls _ _ _ _ _ _ _ (c .before .before .before .before .before .before .pre .0) (on-step _ _ (c .iterate .ensures)) (lit< tt), (ready-step _ _ (c .iterate .ensures) (c .before .before .before .before .before .before .pre .1 .0), c .before .before .before .before .before .before .pre .1 .1))
 
   pub same-length : lts.Need-same-length cs (open-body-at t) open-body-reads.Post
   same-length c = c .before .before .block-behind .kept .1 .0

@@ -1,10 +1,12 @@
 -- `statement_behind` meets its contract: a statement in the part that is lent from the first free row on.
+use lib.Dec.{lit<}
 use Prim.Native.Nat.{ℕ}
 use native.Mathlib.Omega.{arith}
 use Rattle.grammar.specs.Statements.{statement}
 use Rattle.parser.proofs.Answers.{taken, bounded-tree, bounded-told}
 use Rattle.parser.proofs.Ends.{not-at-end, begun-told}
 use Rattle.parser.proofs.Parts.{ready-lent, in-part, back-read, back-refused, back-same, part-length}
+use Rattle.parser.proofs.Moves.{falls, le-refl}
 use borrow.Author.Needs.{needs}
 use Rattle.parser.proofs.statements.statement_behind.Reads as statement-behind-reads
 use Rattle.parser.proofs.statements.statement.Reads as statement-reads
@@ -34,7 +36,7 @@ module _ (t : ℕ) where
   add-statement c = omega (arith, c .before .before .before .pre .1 .1, c .before .before .before .pre .1 .0 .fits)
 
   pub statement-requires : lts.Need-statement-requires cs (statement-behind-at t) statement-behind-reads.Post
-  statement-requires c κs = (omega (arith, c .before .before .before .pre .0), ready-lent (c .before .before .before .args .rows) (c .before .before .before .pre .1 .0) (c .before .before .before .pre .1 .1))
+  statement-requires c κs = (falls _ _ _ _ _ _ _ (c .before .before .before .pre .0) (le-refl _) (lit< tt), ready-lent (c .before .before .before .args .rows) (c .before .before .before .pre .1 .0) (c .before .before .before .pre .1 .1))
 
   pub enum-known-r : lts.Need-enum-known-r cs (statement-behind-at t) statement-behind-reads.Post
   enum-known-r c = search needs

@@ -1,4 +1,5 @@
 -- `statements` meets its contract: the list so far is in the first rows; a semicolon is passed over, and a statement linked behind it.
+use lib.Dec.{lit<}
 use mathlib.Core.Path.{_≡_, refl, sym, _∙_}
 use mathlib.Core.List.{List, [], _∷_}
 use Prim.Native.Nat.{ℕ, _*_, _-_, _≤_, _<_}
@@ -16,7 +17,7 @@ use Rattle.parser.specs.Meets.{Stands, many}
 use Rattle.parser.proofs.Answers.{bounds, bounded-tree, bounded-told, taken, pass, by-eq, choose-true, choose-false, then-read}
 use Rattle.parser.proofs.Ends.{begins, passes}
 use Rattle.parser.proofs.Loops.{Turning, starts, stops, turns-on, lengthens}
-use Rattle.parser.proofs.Moves.{le-trans, on-step, within-step, stands-step, ready-same, moves, is-not-end}
+use Rattle.parser.proofs.Moves.{falls, is-not-end, le-trans, moves, on-step, ready-same, stands-step, within-step}
 use borrow.Author.Needs.{needs}
 use Rattle.words.proofs.current_is.Reads as current-is-reads
 use Rattle.words.proofs.current_symbol_is.Reads as current-symbol-is-reads
@@ -77,7 +78,7 @@ module _ (t : ℕ) where
 
   pub statement-behind-requires : lts.Need-statement-behind-requires cs (statements-at t) statements-reads.Post Inv-loop μ-loop
   statement-behind-requires c κs =
-      (omega (arith, c .before .before .before .before .before .before .before .before .pre .0, c .before .before .before .before .before .loop .inv .on), (ready-same (c .before .before .before .before .before .before .before .before .pre .1 .0) (c .before .before .before .before .before .loop .inv .same) (c .before .before .before .before .before .loop .inv .within), c .before .before .before .before .before .loop .inv .fit))
+      (falls _ _ _ _ _ _ _ (c .before .before .before .before .before .before .before .before .pre .0) (c .before .before .before .before .before .loop .inv .on) (lit< tt), (ready-same (c .before .before .before .before .before .before .before .before .pre .1 .0) (c .before .before .before .before .before .loop .inv .same) (c .before .before .before .before .before .loop .inv .within), c .before .before .before .before .before .loop .inv .fit))
 
   pub enum-known-r : lts.Need-enum-known-r cs (statements-at t) statements-reads.Post Inv-loop μ-loop
   enum-known-r c = search needs

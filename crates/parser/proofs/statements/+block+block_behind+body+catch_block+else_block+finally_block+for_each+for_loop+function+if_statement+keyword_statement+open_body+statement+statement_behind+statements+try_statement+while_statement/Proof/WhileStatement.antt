@@ -1,15 +1,15 @@
 -- `while_statement` meets its contract: the condition in brackets, and the body behind it.
+use lib.Dec.{lit<}
 use mathlib.Core.Path.{refl, sym, _∙_}
 use mathlib.Core.List.{[]}
 use Prim.Native.Nat.{ℕ}
-use native.Mathlib.Omega.{arith}
 use borrow.Author.Tests.{not-true, not-false}
 use Rattle.grammar.specs.Expressions.{expression}
 use Rattle.grammar.specs.Statements.{statement, block, while}
 use Rattle.parser.specs.Meets.{of-node}
 use Rattle.parser.proofs.Answers.{taken, pass, by-eq, refuses, then-read, need-met, need-failed, sooner}
 use Rattle.parser.proofs.Bodies.{open-then}
-use Rattle.parser.proofs.Moves.{le-trans, on-step, ready-step, ready-same, small}
+use Rattle.parser.proofs.Moves.{falls, fits-same, front-le, le-trans, on-step, ready-same, ready-step, small}
 use borrow.Author.Needs.{needs}
 use Rattle.parser.proofs.expressions.expression.Reads as expression-reads
 use Rattle.words.proofs.iterate.Reads as iterate-reads
@@ -56,7 +56,7 @@ module _ (t : ℕ) where
   pub open-body-requires : lts.Need-open-body-requires cs (while-statement-at t) while-statement-reads.Post
   open-body-requires c κs =
       let h = taken (c .before .before .before .before .before .before .expression .ensures) (c .before .before .r .given .1) in
-      (omega (arith, c .before .before .before .before .before .before .before .before .before .before .before .before .before .before .pre .0, h .stands .on, on-step _ _ (c .before .before .before .before .before .before .before .before .before .iterate .ensures), on-step _ _ (c .before .before .before .before .before .before .before .before .iterate2 .ensures)), (ready-same (c .before .before .before .before .before .before .before .before .before .before .before .before .before .before .pre .1) (c .before .before .before .before .before .before .expression .kept .1 .0) (h .stands .within), omega (arith, h .stands .front .fit, c .before .before .before .before .before .before .expression .kept .1 .0)))
+      (falls _ _ _ _ _ _ _ (c .before .before .before .before .before .before .before .before .before .before .before .before .before .before .pre .0) (le-trans (on-step _ _ (c .before .before .before .before .before .before .before .before .before .iterate .ensures)) (le-trans (on-step _ _ (c .before .before .before .before .before .before .before .before .iterate2 .ensures)) (h .stands .on))) (lit< tt), (ready-same (c .before .before .before .before .before .before .before .before .before .before .before .before .before .before .pre .1) (c .before .before .before .before .before .before .expression .kept .1 .0) (h .stands .within), front-le (h .stands .front)))
 
   pub enum-known-q : lts.Need-enum-known-q cs (while-statement-at t) while-statement-reads.Post
   enum-known-q c = search needs
@@ -72,7 +72,7 @@ module _ (t : ℕ) where
   returns-3 c = let h = taken (c .before .before .before .before .before .before .before .before .before .before .before .expression .ensures) (c .before .before .before .before .before .before .before .r .given .1) in by-eq (need-met _ _ _ (sym (c .before .before .before .before .before .before .before .before .before .before .before .before .before .before .before .before .next-symbol-is .ensures) ∙ not-false _ (c .before .before .before .before .before .before .before .before .before .before .before .before .before .before .before .if1 .left))) (rw (← (c .before .before .before .before .before .before .before .before .before .before .before .before .before .before .iterate .ensures), ← (c .before .before .before .before .before .before .before .before .before .before .before .before .before .iterate2 .ensures)) (by-eq (then-read _ (h .eq) ∙ sym (open-then (c .before .before .before .before .before .before .before .before .before .before .before .before .before .before .before .before .before .before .before .args .tokens .now) _ _ _ (block (c .before .before .before .before .before .before .before .before .before .before .before .before .before .before .before .before .before .before .before .args .tokens .now) (expression (c .before .before .before .before .before .before .before .before .before .before .before .before .before .before .before .before .before .before .before .args .tokens .now) (c .before .before .before .before .before .before .before .before .before .before .before .before .before .before .before .before .before .before .before .args .less)) (statement (c .before .before .before .before .before .before .before .before .before .before .before .before .before .before .before .before .before .before .before .args .tokens .now) (c .before .before .before .before .before .before .before .before .before .before .before .before .before .before .before .before .before .before .before .args .less))) _)) (pass _ (c .before .before .before .before .open-body .ensures .1 _ _ _ _ (h .stands)) (c .enum-told2 .given .1))))
 
   pub put-row-requires : lts.Need-put-row-requires cs (while-statement-at t) while-statement-reads.Post
-  put-row-requires c κs = (omega (arith, c .before .before .before .before .before .before .before .before .before .before .before .before .before .before .before .before .before .before .before .before .before .pre .1 .fits, c .before .before .before .before .before .before .open-body .kept .1 .0, c .before .before .before .before .before .before .before .before .before .before .before .before .before .expression .kept .1 .0), small (c .before .before .before .before .before .before .before .before .before .before .before .before .before .before .before .before .before .before .before .before .before .pre .1))
+  put-row-requires c κs = (fits-same _ _ _ (c .before .before .before .before .before .before .before .before .before .before .before .before .before .before .before .before .before .before .before .before .before .pre .1 .fits) (c .before .before .before .before .before .before .open-body .kept .1 .0 ∙ c .before .before .before .before .before .before .before .before .before .before .before .before .before .expression .kept .1 .0), small (c .before .before .before .before .before .before .before .before .before .before .before .before .before .before .before .before .before .before .before .before .before .pre .1))
 
   pub same-length-3 : lts.Need-same-length-3 cs (while-statement-at t) while-statement-reads.Post
   same-length-3 c = c .before .before .put-row .kept .0 ∙ c .before .before .before .before .before .before .before .before .before .open-body .kept .1 .0 ∙ c .before .before .before .before .before .before .before .before .before .before .before .before .before .before .before .before .expression .kept .1 .0
