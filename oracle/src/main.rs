@@ -9,6 +9,7 @@ mod lexer;
 mod model;
 mod original;
 mod places;
+mod record;
 mod selfcheck;
 mod show;
 mod text;
@@ -25,6 +26,9 @@ use std::process::ExitCode;
 const USAGE: &str = "commands:
   gen KIND [--seed N] [--count N] [--rows plenty|scarce]   a batch of cases on standard output
       (kinds: short valid damaged noise chains nesting limits mixed)
+  gen examples               a batch of the worked examples
+  record [--every N] [--most BYTES]   the cases of the batch on standard input, each with its answer
+      (one of every N cases; no records of more than so many bytes)
   answer                     the model's answers to the batch on standard input
   compare ANSWERS            compares a file of answers with the model's, batch on standard input
   selfcheck [--seed N]       compares model and original on every kind of case
@@ -61,7 +65,16 @@ fn run(arguments: &[String]) -> io::Result<bool> {
     let command = arguments.first().map_or("", String::as_str);
     let rest = arguments.get(1..).unwrap_or(&[]);
     match (command, rest) {
-        ("gen", rest) if !rest.is_empty() => generate(&wish(rest)?),
+        ("gen", [kind]) if kind == "examples" => {
+            let examples = examples::all()?;
+            generate(examples.into_iter().map(|example| example.case))
+        }
+        ("gen", rest) if !rest.is_empty() => generate(gen::cases(&wish(rest)?)),
+        ("record", rest) => {
+            let mut out = BufWriter::new(io::stdout().lock());
+            record::record(&mut BufReader::new(io::stdin().lock()), &mut out, &choice(rest)?)?;
+            Ok(true)
+        }
         ("answer", []) => answer(),
         ("selfcheck", []) => selfcheck::run(1),
         ("selfcheck", [option, seed]) if option == "--seed" => {
@@ -99,6 +112,22 @@ fn wish(arguments: &[String]) -> io::Result<gen::Wish> {
     Ok(wish)
 }
 
+/// Reads the options of `record`.
+fn choice(arguments: &[String]) -> io::Result<record::Choice> {
+    let mut choice = record::Choice::default();
+    for pair in arguments.chunks(2) {
+        match pair {
+            [option, value] if option == "--every" => choice.every = number(option, value)?,
+            [option, value] if option == "--most" => choice.most = number(option, value)?,
+            _ => return Err(wrong(format!("unknown option {}\n{}", pair.join(" "), USAGE))),
+        }
+    }
+    if choice.every == 0 {
+        return Err(wrong("--every wants a number above 0".into()));
+    }
+    Ok(choice)
+}
+
 /// The case that the arguments of `show` describe.
 fn shown(arguments: &[String]) -> io::Result<batch::Case> {
     let entry = examples::entry(&arguments[0]).ok_or_else(|| wrong(USAGE.into()))?;
@@ -117,9 +146,9 @@ fn shown(arguments: &[String]) -> io::Result<batch::Case> {
     Ok(batch::Case { entry, start, pool, tokens })
 }
 
-fn generate(wish: &gen::Wish) -> io::Result<bool> {
+fn generate(cases: impl Iterator<Item = batch::Case>) -> io::Result<bool> {
     let mut out = BufWriter::new(io::stdout().lock());
-    for case in gen::cases(wish) {
+    for case in cases {
         batch::write_case(&mut out, &case)?;
     }
     out.flush()?;

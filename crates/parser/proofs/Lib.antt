@@ -10,3 +10,4 @@ mod Bodies
 mod Ends
 mod Lists
 mod Wholes
+mod Promised

@@ -14,7 +14,7 @@ use Rattle.grammar.specs.Words.{Empty, is}
 use Rattle.grammar.specs.Tree.{Tree, Trees, nil, _▸_, sizes, head-ref, lay, lays}
 use Rattle.grammar.specs.Parsed.{Parsed, refused, read, _>>=_, Check, met, failed, need, _>>_, choose, BadArray, BadStart}
 use Rattle.grammar.specs.Statements as s
-use Rattle.grammar.specs.Script.{both, array-good, words-good, rows, pool}
+use Rattle.grammar.specs.Script.{both, array-good, words-good, rows, pool, whole-script}
 use Rattle.words.specs.declared.places.Cursor.{Cursor}
 use Rattle.words.specs.Array.{checked}
 use Rattle.words.specs.declared.array.Checked.the-variants.{Good, Bad}
@@ -25,7 +25,9 @@ use Rattle.parser.specs.declared.part.Read.{Read}
 use Rattle.parser.specs.declared.part.Read.the-variants as the
 use Rattle.parser.specs.declared.Start.the-variants as start
 use Rattle.parser.specs.Meets.{Sound, Ready, Meets, Case, many}
-use Rattle.parser.specs.Entries.{Entered, ended, ended-pool, checks, start-of}
+use Rattle.parser.specs.declared.Entry.{Entry}
+use Rattle.parser.specs.declared.Entry.the-variants as what
+use Rattle.parser.specs.Entries.{Entered, ended, ended-pool, checks, start-of, reads, enters, script}
 
 -- A checked array is sound.
 pub sound : {ts : List ℕ} → array-good ts ≡ met → Sound ts
@@ -233,25 +235,29 @@ good-array ts e = go (array-good ts) refl e
     go met q r = refl
     go (failed n p) q r = let z : _≡_ {A = ℕ} 0 1 = cc in absurd (omega arith)
 
--- A whole script starts at place 0, which every good array has.
-pub passed-array : {A : Type 0} {ts : List ℕ} {at : ℕ} (x : Parsed A) → Begins ts at → (array-good ts >> x) ≡ x
-unfolding _>>_
-passed-array x b = rw (b .good)
-
-pub denied-array : {A : Type 0} (ts : List ℕ) {n p : ℕ} (x : Parsed A) → start-of (checks ts 0) 0 ≡ start.Refused n p → (array-good ts >> x) ≡ refused n p
-unfolding checks both need _>>_
-denied-array {A} ts {n} {p} x e = go (array-good ts) refl e
-  where
-    go : (k : Check) → array-good ts ≡ k → start-of (both k (need (ltb 0 (length ts)) BadStart 0)) 0 ≡ start.Refused n p → (k >> x) ≡ refused n p
-    go met q r =
-        let t = lt-ltb 0 (length ts) (arrays.sound q .some) in
-        let w : start-of (need true BadStart 0) 0 ≡ start.Refused n p = rw t at r in
-        let z : _≡_ {A = ℕ} 0 1 = cc in
-        absurd (omega arith)
-    go (failed m j) q r = cc
+-- What an entry reads is alone.
+pub reads-alone : (e : Entry) (ts : List ℕ) (at room : ℕ) → Alone (reads e ts at room)
+unfolding reads
+reads-alone what.Expression ts at room us b left e = one-alone _ us b left e
+reads-alone what.Statement ts at room us b left e = statement-alone ts _ at room us b left e
+reads-alone what.Script ts at room us b left e = one-alone _ us b left e
 
 -- One reader after another, either way.
-pub then-assoc : {A B C : Type 0} (x : Parsed A) (f : A × ℕ × ℕ → Parsed B) (g : B × ℕ × ℕ → Parsed C) → (x >>= λ y. f y >>= g) ≡ ((x >>= f) >>= g)
+then-assoc : {A B C : Type 0} (x : Parsed A) (f : A × ℕ × ℕ → Parsed B) (g : B × ℕ × ℕ → Parsed C) → (x >>= λ y. f y >>= g) ≡ ((x >>= f) >>= g)
 unfolding _>>=_
 then-assoc (refused n p) f g = refl
 then-assoc (read a at left) f g = refl
+
+-- A good array has a place 0.
+at-zero : {A : Type 0} (ts : List ℕ) (x y : Parsed A) → x ≡ y → (array-good ts >> x) ≡ (array-good ts >> (need (ltb 0 (length ts)) BadStart 0 >> y))
+unfolding need _>>_
+at-zero {A} ts x y e = go (array-good ts) refl
+  where
+    go : (k : Check) → array-good ts ≡ k → (k >> x) ≡ (k >> (need (ltb 0 (length ts)) BadStart 0 >> y))
+    go met q = rw (lt-ltb 0 (length ts) (arrays.sound q .some)) e
+    go (failed n p) q = refl
+
+-- So a whole script is entered there.
+pub whole-enters : (ts : List ℕ) (room : ℕ) → whole-script ts room ≡ enters what.Script ts 0 room
+unfolding whole-script enters reads script
+whole-enters ts room = at-zero ts _ _ (then-assoc _ _ _)

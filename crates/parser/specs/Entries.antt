@@ -4,15 +4,17 @@ use mathlib.Core.Path.{_≡_}
 use mathlib.Core.List.{List, [], _∷_}
 use lib.Dec.{ltb}
 use lib.ListN.{length, replicate}
-use Rattle.grammar.specs.Words.{EOF}
-use Rattle.grammar.specs.Tree.{Tree, Trees, nil, sizes}
+use Rattle.grammar.specs.Words.{EOF, Zero}
+use Rattle.grammar.specs.Tree.{Tree, Trees, nil, _▸_, sizes}
 use Rattle.grammar.specs.Tree as tree
-use Rattle.grammar.specs.Parsed.{Parsed, refused, read, _>>=_, Check, met, failed, need, build, turns, BadStart}
+use Rattle.grammar.specs.Parsed.{Parsed, refused, read, Reader, _>>=_, Check, met, failed, need, _>>_, build, turns, BadStart}
 use Rattle.grammar.specs.Expressions.{expression}
 use Rattle.grammar.specs.Statements.{statement, statements}
 use Rattle.grammar.specs.Script.{nesting, both, array-good, pool}
 use Rattle.parser.specs.declared.Answer.{Answer}
 use Rattle.parser.specs.declared.Answer.the-variants as an
+use Rattle.parser.specs.declared.Entry.{Entry}
+use Rattle.parser.specs.declared.Entry.the-variants as what
 use Rattle.parser.specs.declared.Start.{Start}
 use Rattle.parser.specs.declared.Start.the-variants as start
 use Rattle.parser.specs.declared.part.Read.{Read}
@@ -57,3 +59,20 @@ unfoldable pub script : List ℕ → (at room : ℕ) → Parsed Tree
 script ts at room = do
   (list, at, room) ← statements ts (expression ts nesting) (statement ts nesting) EOF turns nil at room
   build (tree.block 0 list) at room
+
+-- What an entry reads behind its checks.
+unfoldable pub reads : Entry → List ℕ → Reader Trees
+reads what.Expression ts at room = do
+  (t, at, room) ← expression ts nesting Zero at room
+  read (t ▸ nil) at room
+reads what.Statement ts at room = statement ts nesting at room
+reads what.Script ts at room = do
+  (t, at, room) ← script ts at room
+  read (t ▸ nil) at room
+
+-- An entry: the checks, and what is read from a start place.
+unfoldable pub enters : Entry → List ℕ → (start room : ℕ) → Parsed Trees
+enters entry ts start room = do
+  array-good ts
+  need (ltb start (length ts)) BadStart 0
+  reads entry ts start room

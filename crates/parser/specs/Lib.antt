@@ -2,3 +2,4 @@
 pub mod Meets
 pub mod Contracts
 pub mod Entries
+pub mod Promises

@@ -19,7 +19,7 @@ ghost use mathlib.Core.Path.{_≡_};
 ghost use Prim.Native.Nat.{ℕ, _*_};
 ghost use lib.ListN.{length};
 ghost use Rattle.grammar.specs.Script as spec;
-ghost use Rattle.parser.specs.Meets.{Ready, one};
+ghost use Rattle.parser.specs.Meets.{Ready, one, many};
 ghost use Rattle.parser.specs.Contracts.{Fresh};
 ghost use Rattle.parser.specs.Entries.{Entered, checks, start-of, ended, ended-pool};
 ghost use Rattle.parser.specs.Entries as entry;
@@ -34,6 +34,13 @@ const LARGEST: usize = 524280;
 pub enum Answer {
     Accepted(u32, usize, usize),
     Refused(u32, usize),
+}
+
+// The three entries.
+enum Entry {
+    Expression,
+    Statement,
+    Script,
 }
 
 // Where reading starts; or the refusal of an array or a start place.
@@ -83,38 +90,6 @@ fn finish(pool: &mut [u32], r: Read) -> Answer
     }
 }
 
-// One expression from a start place.
-pub fn one_expression(tokens: &[u16], pool: &mut [u32], start: usize) -> Answer
-    ensures { λ r. ⌜ Entered (spec.one-expression (now (tokens .entry)) start (spec.rows (length (now (pool .entry))))) r (length (now (pool .entry))) (now (pool .exit)) ⌝ }
-{
-    rows::clear(pool);
-    let s = check(tokens, start);
-    match s {
-        Start::At(c) => {
-            let n = room(pool.len());
-            let r = expression(tokens, &mut pool[0..n], 0, c, 0, NESTING);
-            finish(pool, r)
-        }
-        Start::Refused(n, p) => Answer::Refused(n, p),
-    }
-}
-
-// One statement from a start place.
-pub fn one_statement(tokens: &[u16], pool: &mut [u32], start: usize) -> Answer
-    ensures { λ r. ⌜ Entered (spec.one-statement (now (tokens .entry)) start (spec.rows (length (now (pool .entry))))) r (length (now (pool .entry))) (now (pool .exit)) ⌝ }
-{
-    rows::clear(pool);
-    let s = check(tokens, start);
-    match s {
-        Start::At(c) => {
-            let n = room(pool.len());
-            let r = statement(tokens, &mut pool[0..n], 0, c, NESTING);
-            finish(pool, r)
-        }
-        Start::Refused(n, p) => Answer::Refused(n, p),
-    }
-}
-
 // The statements of a script, in a block at place 0.
 fn script(tokens: &[u16], pool: &mut [u32], first: usize, c: Cursor) -> Read
     requires { ⌜ Ready (now tokens) (now pool) first (c .at) ⌝ }
@@ -127,18 +102,51 @@ fn script(tokens: &[u16], pool: &mut [u32], first: usize, c: Cursor) -> Read
     put_row(pool, first, k, d, BLOCK, 0, 0, h, 0, 0, 0)
 }
 
-// A whole script.
-pub fn whole_script(tokens: &[u16], pool: &mut [u32]) -> Answer
-    ensures { λ r. ⌜ Entered (spec.whole-script (now (tokens .entry)) (spec.rows (length (now (pool .entry))))) r (length (now (pool .entry))) (now (pool .exit)) ⌝ }
+// What an entry reads behind its checks.
+fn read(tokens: &[u16], pool: &mut [u32], first: usize, c: Cursor, e: Entry) -> Read
+    requires { ⌜ Ready (now tokens) (now pool) first (c .at) ⌝ }
+    ensures { λ r. ⌜ Fresh many (entry.reads e (now (tokens .entry))) (now (tokens .entry)) (c .at) first r (now (pool .entry)) (now (pool .exit)) ⌝ }
+{
+    match e {
+        Entry::Expression => expression(tokens, pool, first, c, 0, NESTING),
+        Entry::Statement => statement(tokens, pool, first, c, NESTING),
+        Entry::Script => script(tokens, pool, first, c),
+    }
+}
+
+// An entry: the checks, and what is read from a start place into the rows of a cleared pool.
+fn enter(tokens: &[u16], pool: &mut [u32], start: usize, e: Entry) -> Answer
+    ensures { λ r. ⌜ Entered (entry.enters e (now (tokens .entry)) start (spec.rows (length (now (pool .entry))))) r (length (now (pool .entry))) (now (pool .exit)) ⌝ }
 {
     rows::clear(pool);
-    let s = check(tokens, 0);
+    let s = check(tokens, start);
     match s {
         Start::At(c) => {
             let n = room(pool.len());
-            let r = script(tokens, &mut pool[0..n], 0, c);
+            let r = read(tokens, &mut pool[0..n], 0, c, e);
             finish(pool, r)
         }
         Start::Refused(n, p) => Answer::Refused(n, p),
     }
+}
+
+// One expression from a start place.
+pub fn one_expression(tokens: &[u16], pool: &mut [u32], start: usize) -> Answer
+    ensures { λ r. ⌜ Entered (spec.one-expression (now (tokens .entry)) start (spec.rows (length (now (pool .entry))))) r (length (now (pool .entry))) (now (pool .exit)) ⌝ }
+{
+    enter(tokens, pool, start, Entry::Expression)
+}
+
+// One statement from a start place.
+pub fn one_statement(tokens: &[u16], pool: &mut [u32], start: usize) -> Answer
+    ensures { λ r. ⌜ Entered (spec.one-statement (now (tokens .entry)) start (spec.rows (length (now (pool .entry))))) r (length (now (pool .entry))) (now (pool .exit)) ⌝ }
+{
+    enter(tokens, pool, start, Entry::Statement)
+}
+
+// A whole script.
+pub fn whole_script(tokens: &[u16], pool: &mut [u32]) -> Answer
+    ensures { λ r. ⌜ Entered (spec.whole-script (now (tokens .entry)) (spec.rows (length (now (pool .entry))))) r (length (now (pool .entry))) (now (pool .exit)) ⌝ }
+{
+    enter(tokens, pool, 0, Entry::Script)
 }

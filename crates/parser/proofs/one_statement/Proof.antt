@@ -1,78 +1,24 @@
--- `one_statement` meets its contract: checked, read into the rows of a cleared pool, and finished with.
-use mathlib.Core.Path.{refl, sym, ap, _∙_}
-use Prim.Native.Nat.{ℕ, _*_, _-_}
-use native.Mathlib.Omega.{arith}
-use lib.ListN.{length, replicate, length-replicate}
-use borrow.Rule.Slice.PartMut.{same-len-mid}
-use Rattle.grammar.specs.Script.{rows, nesting, one-statement}
-use Rattle.parser.proofs.Answers.{by-eq}
-use Rattle.parser.proofs.Wholes.{begins, passed, denied, few-words, lent-zeros, ready-whole, all-rows, statement-alone, alone-by, finished, unread}
+-- `one_statement` meets its contract: the entry for it.
+use Rattle.grammar.specs.Script.{one-statement}
+use Rattle.parser.specs.Entries.{enters, reads}
 use borrow.Author.Needs.{needs}
 use Rattle.parser.proofs.one_statement.Statement.{statement}
 use Rattle.parser.proofs.one_statement.Tie as tie
 
-clear-requires : tie.Need-clear-requires
-clear-requires c κs = search needs
-
-check-requires : tie.Need-check-requires
-check-requires c κs = search needs
-
-enum-known-s : tie.Need-enum-known-s
-enum-known-s c = search needs
-
-room-requires : tie.Need-room-requires
-room-requires c κs = search needs
-
-sub-statement : tie.Need-sub-statement
-sub-statement c = omega arith
-
-part-statement-start : tie.Need-part-statement-start
-part-statement-start c = omega arith
-
-part-statement-end : tie.Need-part-statement-end
-part-statement-end c = omega (arith, c .room .ensures ∙ ap (λ (i : ℕ). 8 * rows i) (c .before .before .before .before .before .before .before .clear .kept .0), few-words (length (c .before .before .before .before .before .before .before .before .before .before .before .args .pool .now)), c .before .before .before .before .before .before .before .clear .kept .0)
-
-statement-requires : tie.Need-statement-requires
-statement-requires c κs = let b = begins (c .before .before .before .before .before .before .before .before .before .before .before .before .args .tokens .now) (c .before .before .before .before .before .before .before .before .before .before .before .before .args .start) (sym (c .before .before .before .before .before .check .ensures) ∙ c .before .before .before .s .given .1) in ready-whole (length (c .before .before .before .before .before .before .before .before .before .before .before .before .args .pool .now)) (b .0 .good) (rw (b .1) (b .0 .within)) (ap length (lent-zeros (c .before .room .result) (length (c .before .before .before .before .before .before .before .before .before .before .before .before .args .pool .now)) (c .before .before .before .before .before .before .before .before .clear .ensures) (omega (arith, c .before .room .ensures ∙ ap (λ (i : ℕ). 8 * rows i) (c .before .before .before .before .before .before .before .before .clear .kept .0), few-words (length (c .before .before .before .before .before .before .before .before .before .before .before .before .args .pool .now)))) ∙ ap (λ (i : ℕ). replicate {A = ℕ} i 0) (c .before .room .ensures ∙ ap (λ (i : ℕ). 8 * rows i) (c .before .before .before .before .before .before .before .before .clear .kept .0))) ∙ length-replicate (8 * rows (length (c .before .before .before .before .before .before .before .before .before .before .before .before .args .pool .now))) 0)
-
-finish-requires : tie.Need-finish-requires
-finish-requires c κs = search needs
-
-enum-known-s-2 : tie.Need-enum-known-s-2
-enum-known-s-2 c = search needs
+enter-requires : tie.Need-enter-requires
+enter-requires c κs = search needs
 
 same-length : tie.Need-same-length
-same-length c = c .before .before .finish .kept .0 ∙ same-len-mid 0 (c .before .before .before .before .before .before .before .before .room .result - 0) (c .before .before .before .before .before .before .before .before .before .before .before .before .before .before .before .clear .last .0) (c .before .before .before .before .before .before .statement .last .1 .0) (c .before .before .before .before .before .before .statement .kept .1 .0) ∙ c .before .before .before .before .before .before .before .before .before .before .before .before .before .before .before .clear .kept .0
+same-length c = search needs
 
 returns : tie.Need-returns
-unfolding one-statement nesting
-returns c =
-    let b = begins (c .before .before .before .before .before .before .before .before .before .before .before .before .before .before .before .before .before .before .before .args .tokens .now) (c .before .before .before .before .before .before .before .before .before .before .before .before .before .before .before .before .before .before .before .args .start) (sym (c .before .before .before .before .before .before .before .before .before .before .before .before .check .ensures) ∙ c .before .before .before .before .before .before .before .before .before .before .s .given .1) in
-    finished (length (c .before .before .before .before .before .before .before .before .before .before .before .before .before .before .before .before .before .before .before .args .pool .now)) (c .before .before .before .before .before .before .before .before .room .result) (c .before .before .before .before .before .before .before .before .before .before .before .before .before .before .before .clear .ensures) (c .before .before .before .before .before .before .before .before .room .ensures ∙ ap (λ (i : ℕ). 8 * rows i) (c .before .before .before .before .before .before .before .before .before .before .before .before .before .before .before .clear .kept .0)) (alone-by (passed _ (b .0)) (statement-alone _ _ _ _)) (c .before .before .before .before .before .before .statement .kept .1 .0)
-    (by-eq (passed _ (b .0)) (rw (b .1, all-rows (length (c .before .before .before .before .before .before .before .before .before .before .before .before .before .before .before .before .before .before .before .args .pool .now)) (lent-zeros (c .before .before .before .before .before .before .before .before .room .result) (length (c .before .before .before .before .before .before .before .before .before .before .before .before .before .before .before .before .before .before .before .args .pool .now)) (c .before .before .before .before .before .before .before .before .before .before .before .before .before .before .before .clear .ensures) (omega (arith, c .before .before .before .before .before .before .before .before .room .ensures ∙ ap (λ (i : ℕ). 8 * rows i) (c .before .before .before .before .before .before .before .before .before .before .before .before .before .before .before .clear .kept .0), few-words (length (c .before .before .before .before .before .before .before .before .before .before .before .before .before .before .before .before .before .before .before .args .pool .now)))) ∙ ap (λ (i : ℕ). replicate {A = ℕ} i 0) (c .before .before .before .before .before .before .before .before .room .ensures ∙ ap (λ (i : ℕ). 8 * rows i) (c .before .before .before .before .before .before .before .before .before .before .before .before .before .before .before .clear .kept .0)))) at (c .before .before .before .before .before .before .statement .ensures))) (c .before .before .finish .ensures .0) (c .before .before .finish .ensures .1)
-
-same-length-2 : tie.Need-same-length-2
-same-length-2 c = c .before .before .before .before .before .before .clear .kept .0
-
-returns-2 : tie.Need-returns-2
-unfolding one-statement
-returns-2 c = unread (length (c .before .before .before .before .before .before .before .before .before .before .args .pool .now)) (denied (c .before .before .before .before .before .before .before .before .before .before .args .tokens .now) (c .before .before .before .before .before .before .before .before .before .before .args .start) _ (sym (c .before .before .before .check .ensures) ∙ c .before .s2 .given .1)) refl (c .before .before .before .before .before .before .clear .ensures)
+unfolding one-statement enters reads
+returns c = c .before .before .enter .ensures
 
 pub one-statement-spec : {M : Type 1} → statement M
 one-statement-spec =
     tie.close
     (tie.spec
-    clear-requires
-    check-requires
-    enum-known-s
-    room-requires
-    sub-statement
-    part-statement-start
-    part-statement-end
-    statement-requires
-    finish-requires
-    enum-known-s-2
+    enter-requires
     same-length
-    returns
-    same-length-2
-    returns-2)
+    returns)
