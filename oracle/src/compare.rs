@@ -77,7 +77,7 @@ fn show_rows(own: &Answer, given: &Answer) {
 }
 
 /// A row's words as the printing program writes them.
-fn words_of(row: Option<&Row>) -> String {
+pub fn words_of(row: Option<&Row>) -> String {
     let words = |row: &Row| row.map(|word| word.to_string()).join(" ");
     row.map_or("none".into(), words)
 }

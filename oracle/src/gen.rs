@@ -5,6 +5,7 @@ mod grammar;
 mod limits;
 mod nesting;
 mod rng;
+pub mod token_files;
 
 use crate::batch::Case;
 use crate::model::{Entry, ROW};

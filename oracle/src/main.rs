@@ -2,6 +2,7 @@
 mod batch;
 mod compare;
 mod examples;
+mod files;
 mod gen;
 mod groups;
 mod kinds;
@@ -20,7 +21,8 @@ mod words;
 include!(concat!(env!("OUT_DIR"), "/original.rs"));
 
 use std::fs::File;
-use std::io::{self, BufReader, BufWriter, Write};
+use std::io::{self, BufReader, BufWriter, Read, Write};
+use std::path::Path;
 use std::process::ExitCode;
 
 const USAGE: &str = "commands:
@@ -29,6 +31,8 @@ const USAGE: &str = "commands:
   gen examples               a batch of the worked examples
   record [--every N] [--most BYTES]   the cases of the batch on standard input, each with its answer
       (one of every N cases; no records of more than so many bytes)
+  outline                    what the printing program writes to the token file on standard input
+  files FOLDER [--seed N] [--count N]   random token files NAME.tok, and what it writes to each: NAME.out
   answer                     the model's answers to the batch on standard input
   compare ANSWERS            compares a file of answers with the model's, batch on standard input
   selfcheck [--seed N]       compares model and original on every kind of case
@@ -75,6 +79,13 @@ fn run(arguments: &[String]) -> io::Result<bool> {
             record::record(&mut BufReader::new(io::stdin().lock()), &mut out, &choice(rest)?)?;
             Ok(true)
         }
+        ("outline", []) => {
+            let mut file = vec![];
+            io::stdin().lock().read_to_end(&mut file)?;
+            print!("{}", files::outline(&file));
+            Ok(true)
+        }
+        ("files", [folder, rest @ ..]) => write_files(Path::new(folder), rest),
         ("answer", []) => answer(),
         ("selfcheck", []) => selfcheck::run(1),
         ("selfcheck", [option, seed]) if option == "--seed" => {
@@ -152,6 +163,23 @@ fn generate(cases: impl Iterator<Item = batch::Case>) -> io::Result<bool> {
         batch::write_case(&mut out, &case)?;
     }
     out.flush()?;
+    Ok(true)
+}
+
+/// Writes token files and their outlines into a folder.
+fn write_files(folder: &Path, options: &[String]) -> io::Result<bool> {
+    let (mut seed, mut count) = (1, 1000);
+    for pair in options.chunks(2) {
+        match pair {
+            [option, value] if option == "--seed" => seed = number(option, value)?,
+            [option, value] if option == "--count" => count = number(option, value)?,
+            _ => return Err(wrong(format!("unknown option {}\n{}", pair.join(" "), USAGE))),
+        }
+    }
+    for (index, file) in gen::token_files::files(seed).take(count).enumerate() {
+        std::fs::write(folder.join(format!("{:06}.tok", index)), &file)?;
+        std::fs::write(folder.join(format!("{:06}.out", index)), files::outline(&file))?;
+    }
     Ok(true)
 }
 
