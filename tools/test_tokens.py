@@ -1,7 +1,4 @@
 """Tests of tools/tokens: run with python3 tools/test_tokens.py."""
-import importlib.machinery
-import importlib.util
-import pathlib
 import random
 import struct
 import subprocess
@@ -9,17 +6,10 @@ import sys
 import unittest
 
 sys.dont_write_bytecode = True
-TOOL = pathlib.Path(__file__).resolve().parent / "tokens"
+import scripts
 
-
-def load():
-    loader = importlib.machinery.SourceFileLoader("tokens", str(TOOL))
-    module = importlib.util.module_from_spec(importlib.util.spec_from_loader("tokens", loader))
-    loader.exec_module(module)
-    return module
-
-
-tokens = load()
+TOOL = scripts.path_of("tokens")
+tokens = scripts.load("tokens")
 
 
 def run(*arguments, given=b""):

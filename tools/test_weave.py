@@ -1,7 +1,5 @@
 """Tests of tools/weave: run with python3 tools/test_weave.py."""
 import contextlib
-import importlib.machinery
-import importlib.util
 import io
 import os
 import pathlib
@@ -11,17 +9,10 @@ import unittest
 import unittest.mock
 
 sys.dont_write_bytecode = True
-TOOL = pathlib.Path(__file__).resolve().parent / "weave"
+import scripts
 
-
-def load():
-    loader = importlib.machinery.SourceFileLoader("weave", str(TOOL))
-    module = importlib.util.module_from_spec(importlib.util.spec_from_loader("weave", loader))
-    loader.exec_module(module)
-    return module
-
-
-weave = load()
+TOOL = scripts.path_of("weave")
+weave = scripts.load("weave")
 
 # what rt goals writes of a function with no loop: its places and its `spec`
 LTS = """\
