@@ -11,7 +11,6 @@ import unittest.mock
 sys.dont_write_bytecode = True
 import scripts
 
-TOOL = scripts.path_of("weave")
 weave = scripts.load("weave")
 
 # what rt goals writes of a function with no loop: its places and its `spec`
