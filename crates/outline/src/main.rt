@@ -2,7 +2,7 @@
 use files::Fields;
 use libc::STDIN_FILENO;
 use libc::STDOUT_FILENO;
-use parser::Answer;
+use answer::Answer;
 
 // The bytes of the longest file and one more, the words of the most tokens, and the words of 2,000 rows.
 const BYTES: usize = 60001;

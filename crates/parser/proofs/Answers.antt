@@ -8,36 +8,34 @@ use native.Mathlib.Nat.{add-zero}
 use lib.ListN.{length, take, drop}
 use Rattle.grammar.specs.Tree.{Tree, Trees, nil, _▸_, size, head-ref, row, lay}
 use Rattle.grammar.specs.Parsed.{Parsed, refused, read, _>>=_, _>>_, need, build, choose}
-use Rattle.words.specs.declared.places.Cursor.{Cursor}
-use Rattle.parser.specs.declared.part.Read.{Read}
-use Rattle.parser.specs.declared.part.Read.the-variants as the
+use Rattle.answer.specs.declared.Read.{Read}
+use Rattle.answer.specs.declared.Read.the-variants as the
 use Rattle.parser.specs.Meets.{Stands, Meets, Case, Front, lay-slots, after, four, Ending, one, Bounded, BoundedCase}
 use Rattle.parser.proofs.Slots.{slots-more, after-more, slots-behind, after-behind, slots-four, after-four, root-size, root-laid}
 use Rattle.parser.proofs.Fronts.{front-same, front-more, front-eq}
 
-pub not-both : {A : Type 0} (r : Read) (n p k h : ℕ) (c : Cursor) → r ≡ the.Refused n p → r ≡ the.Tree k h c → A
+pub not-both : {A : Type 0} (r : Read) (n p k h : ℕ) (c : ℕ) → r ≡ the.Refused n p → r ≡ the.Tree k h c → A
 not-both {A} r n p k h c a b = let z : _≡_ {A = ℕ} 0 1 = cc in let y : ⊥ = omega arith in absurd y
 
 -- What an accepted answer tells.
-pub record Taken {A : Type 0} (slot : A → Trees) (ts : List ℕ) (from : ℕ) (P : Parsed A) (ss : List Trees) (first k h : ℕ) (c : Cursor) (xs ys : List ℕ) : Type 0 where
+pub record Taken {A : Type 0} (slot : A → Trees) (ts : List ℕ) (from : ℕ) (P : Parsed A) (ss : List Trees) (first k h : ℕ) (c : ℕ) (xs ys : List ℕ) : Type 0 where
   pub value : A
   pub left : ℕ
-  pub eq : P ≡ read value (c .at) left
+  pub eq : P ≡ read value c left
   pub head : h ≡ head-ref (slot value) (after ss first)
-  pub stands : Stands ts from (ss ++ (slot value ∷ [])) first k left xs ys (c .at)
+  pub stands : Stands ts from (ss ++ (slot value ∷ [])) first k left xs ys c
 
-pub taken : {A : Type 0} {slot : A → Trees} {ts : List ℕ} {from : ℕ} {P : Parsed A} {ss : List Trees} {first : ℕ} {r : Read} {xs ys : List ℕ} {k h : ℕ} {c : Cursor}
+pub taken : {A : Type 0} {slot : A → Trees} {ts : List ℕ} {from : ℕ} {P : Parsed A} {ss : List Trees} {first : ℕ} {r : Read} {xs ys : List ℕ} {k h : ℕ} {c : ℕ}
     → Meets slot ts from P ss first r xs ys → r ≡ the.Tree k h c → Taken slot ts from P ss first k h c xs ys
 taken {A} {slot} {ts} {from} {P} {ss} {first} {r} {xs} {ys} {k} {h} {c} m e = go P (m .met)
   where
     go : (Q : Parsed A) → Case slot ts from Q ss first r xs ys → Taken slot ts from Q ss first k h c xs ys
     go (refused n p) q = not-both r n p k h c q e
     go (read a at left) g =
-        let s : the.Tree (g .rows) (head-ref (slot a) (after ss first)) (record { at = at }) ≡ the.Tree k h c = sym (g .is) ∙ e in
+        let s : the.Tree (g .rows) (head-ref (slot a) (after ss first)) at ≡ the.Tree k h c = sym (g .is) ∙ e in
         let rows : g .rows ≡ k = cc in
         let heads : head-ref (slot a) (after ss first) ≡ h = cc in
-        let here : _≡_ {A = Cursor} (record { at = at }) c = cc in
-        let place : at ≡ c .at = ap (λ (x : Cursor). x .at) here in
+        let place : at ≡ c = cc in
         record {
           value = a;
           left = left;
@@ -55,7 +53,7 @@ pass {A} {B} {slot} {slot′} {ts} {from} {P} {ss} {first} {r} {xs} {ys} {n} {p}
   where
     go : (Q : Parsed A) → Case slot ts from Q ss first r xs ys → Case slot′ ts′ from′ (Q >>= f) ss′ first′ r xs′ ys′
     go (refused a b) q = q
-    go (read a at left) g = not-both r n p (g .rows) (head-ref (slot a) (after ss first)) (record { at = at }) e (g .is)
+    go (read a at left) g = not-both r n p (g .rows) (head-ref (slot a) (after ss first)) at e (g .is)
 
 -- The definition's value may be put as another.
 pub by-eq : {A : Type 0} {slot : A → Trees} {ts : List ℕ} {from : ℕ} {P Q : Parsed A} {ss : List Trees} {first : ℕ} {r : Read} {xs ys : List ℕ} → P ≡ Q
@@ -119,7 +117,7 @@ onward s le lt = let o = s .on in record { front = s .front; ends = s .ends; spe
 -- The row that ends a tree is built, behind what stands before the tree.
 pub built : {ts : List ℕ} {from : ℕ} {ss : List Trees} {first k left : ℕ} {xs ys zs : List ℕ} {at : ℕ} {kind m p c0 c1 c2 c3 : ℕ} {t : Tree} {r : Read} (bs : List Trees)
     → Stands ts from (bs ++ ss) first k left xs ys at → Ending t kind m p ss (after bs first) c0 c1 c2 c3
-    → k < length ys / 8 → zs ≡ take (8 * k) ys ++ (row kind m p c0 c1 c2 c3 0 ++ drop (8 * k + 8) ys) → r ≡ the.Tree (k + 1) (first + (k + 1)) (record { at = at })
+    → k < length ys / 8 → zs ≡ take (8 * k) ys ++ (row kind m p c0 c1 c2 c3 0 ++ drop (8 * k + 8) ys) → r ≡ the.Tree (k + 1) (first + (k + 1)) at
     → Meets one ts from (build t at left) bs first r xs zs
 unfolding build lay
 built {ts} {from} {ss} {first} {k} {left} {xs} {ys} {zs} {at} {kind} {m} {p} {c0} {c1} {c2} {c3} {t} {r} bs s end lt e is = record { met = go left refl }
@@ -144,7 +142,7 @@ built {ts} {from} {ss} {first} {k} {left} {xs} {ys} {zs} {at} {kind} {m} {p} {c0
         ∙ sym (slots-more bs (t ▸ nil) first) in
         record {
           rows = k + 1;
-          is = is ∙ ap (λ (i : ℕ). the.Tree (k + 1) i (record { at = at })) (sym z);
+          is = is ∙ ap (λ (i : ℕ). the.Tree (k + 1) i at) (sym z);
           stands = record {
             front = front-eq l fr;
             ends = sym (after-more bs (t ▸ nil) first ∙ ap (λ (i : ℕ). g + i) (add-zero (size t)) ∙ z);
@@ -167,18 +165,18 @@ full {ts} {from} {ss} {first} {k} {left} {xs} {ys} {zs} {at} {r} bs t s le is = 
         absurd y
 
 -- The numbers of an answer.
-pub bounded-tree : {ts xs : List ℕ} {at k h : ℕ} {d : Cursor} → 8 * k ≤ length xs → at ≤ d .at → d .at < length ts → Bounded ts xs at (the.Tree k h d)
+pub bounded-tree : {ts xs : List ℕ} {at k h : ℕ} {d : ℕ} → 8 * k ≤ length xs → at ≤ d → d < length ts → Bounded ts xs at (the.Tree k h d)
 bounded-tree a b c = record { bounded = (a, b, c) }
 
 pub bounded-refused : {ts xs : List ℕ} {at : ℕ} (n p : ℕ) → Bounded ts xs at (the.Refused n p)
 bounded-refused n p = record { bounded = tt }
 
-pub record Bounds (ts xs : List ℕ) (at k : ℕ) (d : Cursor) : Type 0 where
+pub record Bounds (ts xs : List ℕ) (at k : ℕ) (d : ℕ) : Type 0 where
   pub fit : 8 * k ≤ length xs
-  pub on : at ≤ d .at
-  pub within : d .at < length ts
+  pub on : at ≤ d
+  pub within : d < length ts
 
-pub bounds : {ts xs : List ℕ} {at : ℕ} {r : Read} {k h : ℕ} {d : Cursor} → Bounded ts xs at r → r ≡ the.Tree k h d → Bounds ts xs at k d
+pub bounds : {ts xs : List ℕ} {at : ℕ} {r : Read} {k h : ℕ} {d : ℕ} → Bounded ts xs at r → r ≡ the.Tree k h d → Bounds ts xs at k d
 bounds {ts} {xs} {at} {r} {k} {h} {d} m e = let b : BoundedCase ts xs at (the.Tree k h d) = rw e at (m .bounded) in record { fit = b .0; on = b .1; within = b .2 }
 
 -- An answer from a later place on, into a part as long.
@@ -203,19 +201,19 @@ pub bounded-told : {ts xs : List ℕ} {at : ℕ} {r : Read} {n p : ℕ} → r �
 bounded-told {n = n} {p = p} e = rw e (bounded-refused n p)
 
 -- An empty list was read.
-pub read-none : {ts : List ℕ} {d : Cursor} (first : ℕ) (xs : List ℕ) → d .at < length ts
-    → Meets (λ us. us) ts (d .at) (read nil (d .at) (length xs / 8)) [] first (the.Tree 0 0 d) xs xs
+pub read-none : {ts : List ℕ} {d : ℕ} (first : ℕ) (xs : List ℕ) → d < length ts
+    → Meets (λ us. us) ts d (read nil d (length xs / 8)) [] first (the.Tree 0 0 d) xs xs
 read-none first xs w = record { met = record { rows = 0; is = refl; stands = no-list first xs w } }
 
 -- What stands in the part is the answer.
-pub read-on : {A : Type 0} {slot : A → Trees} {ts : List ℕ} {from : ℕ} {ss : List Trees} {first k h left : ℕ} {xs ys : List ℕ} {d : Cursor} {a : A}
-    → h ≡ head-ref (slot a) (after ss first) → Stands ts from (ss ++ (slot a ∷ [])) first k left xs ys (d .at)
-    → Meets slot ts from (read a (d .at) left) ss first (the.Tree k h d) xs ys
+pub read-on : {A : Type 0} {slot : A → Trees} {ts : List ℕ} {from : ℕ} {ss : List Trees} {first k h left : ℕ} {xs ys : List ℕ} {d : ℕ} {a : A}
+    → h ≡ head-ref (slot a) (after ss first) → Stands ts from (ss ++ (slot a ∷ [])) first k left xs ys d
+    → Meets slot ts from (read a d left) ss first (the.Tree k h d) xs ys
 read-on {k = k} {d = d} e s = record { met = record { rows = k; is = ap (λ (i : ℕ). the.Tree k i d) e; stands = s } }
 
 -- Nothing more is read behind the slots.
-pub read-nothing : {ts : List ℕ} {from : ℕ} {ss : List Trees} {first k left : ℕ} {xs ys : List ℕ} {d : Cursor} → Stands ts from ss first k left xs ys (d .at)
-    → Meets (λ us. us) ts from (read nil (d .at) left) ss first (the.Tree k 0 d) xs ys
+pub read-nothing : {ts : List ℕ} {from : ℕ} {ss : List Trees} {first k left : ℕ} {xs ys : List ℕ} {d : ℕ} → Stands ts from ss first k left xs ys d
+    → Meets (λ us. us) ts from (read nil d left) ss first (the.Tree k 0 d) xs ys
 unfolding lay
 read-nothing {ss = ss} {first = first} {k = k} s =
     record {

@@ -13,9 +13,8 @@ use Rattle.grammar.specs.Parsed.{Parsed, refused, read, _>>=_, choose, match}
 use Rattle.grammar.specs.Expressions as e
 use Rattle.grammar.specs.Statements as s
 use Rattle.words.proofs.Steps.{step-on}
-use Rattle.words.specs.declared.places.Cursor.{Cursor}
-use Rattle.parser.specs.declared.part.Read.{Read}
-use Rattle.parser.specs.declared.part.Read.the-variants as the
+use Rattle.answer.specs.declared.Read.{Read}
+use Rattle.answer.specs.declared.Read.the-variants as the
 use Rattle.parser.specs.Meets.{Sound}
 use Rattle.parser.specs.Contracts.{Begun, BegunCase}
 use Rattle.parser.proofs.Moves.{moves}
@@ -53,5 +52,5 @@ passes {ts} {at} {b} so le w n = go (eqb (tok ts b) EOF) refl
 pub begun-told : {ts : List ℕ} {at : ℕ} {r : Read} {n p : ℕ} → r ≡ the.Refused n p → Begun ts at r
 begun-told e = rw e (record { begun = tt })
 
-pub begins : {ts : List ℕ} {at : ℕ} {r : Read} {k h : ℕ} {d : Cursor} → Begun ts at r → r ≡ the.Tree k h d → (tok ts at ≡ EOF) → ⊥
+pub begins : {ts : List ℕ} {at : ℕ} {r : Read} {k h : ℕ} {d : ℕ} → Begun ts at r → r ≡ the.Tree k h d → (tok ts at ≡ EOF) → ⊥
 begins {ts} {at} {r} {k} {h} {d} b e = let q : BegunCase ts at (the.Tree k h d) = rw e at (b .begun) in q

@@ -8,7 +8,7 @@ use Rattle.grammar.specs.Tree.{Tree, Trees, nil, _▸_}
 use Rattle.grammar.specs.Parsed.{Parsed, refused, read, Reader, Check, met, failed, _>>=_, _>>_}
 use Rattle.grammar.specs.Expressions.{Rec}
 use Rattle.grammar.specs.Statements.{kept, expression-statement}
-use Rattle.parser.specs.declared.part.Read.{Read}
+use Rattle.answer.specs.declared.Read.{Read}
 use Rattle.parser.specs.Meets.{Meets, Case, one, many}
 use Rattle.parser.specs.Contracts.{around}
 use Rattle.parser.proofs.Answers.{by-eq}

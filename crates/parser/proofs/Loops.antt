@@ -11,8 +11,7 @@ use borrow.Author.Tests.{eq-eqb, ne-eqb}
 use Rattle.grammar.specs.Tree.{Trees, nil, _▸_, sizes, head-ref, join}
 use Rattle.rows.specs.Rows.{linked}
 use Rattle.grammar.specs.Parsed.{read, Reader, turns}
-use Rattle.words.specs.declared.places.Cursor.{Cursor}
-use Rattle.parser.specs.declared.part.Read.the-variants as the
+use Rattle.answer.specs.declared.Read.the-variants as the
 use Rattle.parser.specs.Meets.{Stands, Meets, many}
 use Rattle.parser.proofs.Answers.{by-eq, onward}
 use Rattle.parser.proofs.Slots.{some-rows}
@@ -37,14 +36,14 @@ starts loop a few s e = record { value = a; left = _; fuel = 32767; eq = refl; e
 module _ {A : Type 0} {slot : A → Trees} {loop : ℕ → A → Reader A} {ts : List ℕ} {from : ℕ} {a₀ : A} {at₀ room₀ first k h : ℕ} {xs ys : List ℕ} {at : ℕ}
     (s : Turning slot loop ts from a₀ at₀ room₀ first k h xs ys at) where
   -- It stops, and what was read is the answer.
-  pub stops : (d : Cursor) → d .at ≡ at → loop (suc (s .fuel)) (s .value) at (s .left) ≡ read (s .value) at (s .left)
+  pub stops : (d : ℕ) → d ≡ at → loop (suc (s .fuel)) (s .value) at (s .left) ≡ read (s .value) at (s .left)
       → Meets slot ts from (loop turns a₀ at₀ room₀) [] first (the.Tree k h d) xs ys
   stops d e q =
       by-eq (s .eq ∙ q)
       (record {
         met = record {
           rows = k;
-          is = ap (λ (i : ℕ). the.Tree k i d) (s .head) ∙ ap (λ (i : ℕ). the.Tree k (head-ref (slot (s .value)) first) (record { at = i })) e;
+          is = ap (λ (i : ℕ). the.Tree k i d) (s .head) ∙ ap (λ (i : ℕ). the.Tree k (head-ref (slot (s .value)) first) i) e;
           stands = s .stands;
         };
       })

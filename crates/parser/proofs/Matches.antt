@@ -12,11 +12,10 @@ use Rattle.grammar.specs.Parsed.{Parsed, refused, read, Reader, Arm, _⇒_, mat
 use Rattle.grammar.specs.Expressions.{Rec, prefix-part, no-prefix}
 use Rattle.rows.specs.Rows.{marked, bit}
 use Rattle.rows.specs.declared.Flag.{Flag}
-use Rattle.words.specs.declared.places.Cursor.{Cursor}
 use Rattle.words.specs.declared.tokens.Token.{Token}
 use Rattle.words.specs.Tokens.{word, token}
 use Rattle.words.proofs.Round.{word-token}
-use Rattle.parser.specs.declared.part.Read.the-variants as the
+use Rattle.answer.specs.declared.Read.the-variants as the
 use Rattle.parser.specs.Meets.{Ready, Stands, Meets, one}
 use Rattle.parser.proofs.Answers.{refuses, choose-false}
 use Rattle.parser.proofs.Roots.{flagged-size, stands-marked}
@@ -75,8 +74,8 @@ unstarted {ts} {at} rec room n e h =
     refuses _ n at (unmatched _ _ _ at room (both .0) ∙ last ts at room ∙ ap (λ (i : ℕ). refused i at) (eqb-true _ n (both .1)))
 
 -- The tree in the first rows, once a flag is set in its row, is the answer.
-pub reads-marked : {ts : List ℕ} {from first k h left : ℕ} {xs ys zs : List ℕ} {d : Cursor} (f : Flag) (t : Tree) → Stands ts from ((t ▸ nil) ∷ []) first k left xs ys (d .at)
-    → h ≡ first + size t → zs ≡ marked ys k f → Meets one ts from (read (flagged (bit f) t) (d .at) left) [] first (the.Tree k h d) xs zs
+pub reads-marked : {ts : List ℕ} {from first k h left : ℕ} {xs ys zs : List ℕ} {d : ℕ} (f : Flag) (t : Tree) → Stands ts from ((t ▸ nil) ∷ []) first k left xs ys d
+    → h ≡ first + size t → zs ≡ marked ys k f → Meets one ts from (read (flagged (bit f) t) d left) [] first (the.Tree k h d) xs zs
 reads-marked {first = first} {k = k} {d = d} f t s eh e =
     record {
       met = record {

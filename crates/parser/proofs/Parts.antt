@@ -8,9 +8,8 @@ use lib.Seq.{take-all, drop-drop}
 use borrow.Rule.Slice.PartMut.{putMid, same-len-mid}
 use Rattle.grammar.specs.Tree.{Trees, sizes, lays, head-ref}
 use Rattle.grammar.specs.Parsed.{Parsed, refused, read}
-use Rattle.words.specs.declared.places.Cursor.{Cursor}
-use Rattle.parser.specs.declared.part.Read.{Read}
-use Rattle.parser.specs.declared.part.Read.the-variants as the
+use Rattle.answer.specs.declared.Read.{Read}
+use Rattle.answer.specs.declared.Read.the-variants as the
 use Rattle.parser.specs.Meets.{Ready, Front, Stands, Meets, Case, lay-slots, after}
 use Rattle.parser.proofs.Fronts.{front-same, front-more, front-eq}
 use Rattle.parser.proofs.Slots.{slots-more, after-more}
@@ -61,7 +60,7 @@ pub room-left : {ts : List ℕ} {from : ℕ} {ss : List Trees} {first k left : �
 room-left {k = k} {ys = ys} s = omega (arith, s .spent, part-length k ys, front-same (s .front), s .front .fit)
 
 -- What was read into the part stands behind the slots.
-pub back-read : {A : Type 0} {slot : A → Trees} {ts : List ℕ} {from : ℕ} {P : Parsed A} {ss : List Trees} {first k left : ℕ} {xs ys zs : List ℕ} {at : ℕ} {r : Read} {j h : ℕ} {d : Cursor}
+pub back-read : {A : Type 0} {slot : A → Trees} {ts : List ℕ} {from : ℕ} {P : Parsed A} {ss : List Trees} {first k left : ℕ} {xs ys zs : List ℕ} {at : ℕ} {r : Read} {j h : ℕ} {d : ℕ}
     → Stands ts from ss first k left xs ys at → Meets slot ts at P [] (first + k) r (part k ys) zs → r ≡ the.Tree j h d
     → Meets slot ts from P ss first (the.Tree (k + j) h d) xs (back k ys zs)
 back-read {A} {slot} {ts} {from} {P} {ss} {first} {k} {left} {xs} {ys} {zs} {at} {r} {j} {h} {d} s m e = record { met = go P (m .met) }
@@ -71,7 +70,7 @@ back-read {A} {slot} {ts} {from} {P} {ss} {first} {k} {left} {xs} {ys} {zs} {at}
     go (read a at′ left′) g =
         let t : Taken slot ts at (read a at′ left′) [] (first + k) j h d (part k ys) zs = taken (record { met = g }) e in
         let v : slot (t .value) ≡ slot a = cc (t .eq) in
-        let place : at′ ≡ d .at = cc (t .eq) in
+        let place : at′ ≡ d = cc (t .eq) in
         let l : left′ ≡ t .left = cc (t .eq) in
         let g′ = t .stands in
         let fr = front-part (s .front) (g′ .front) in
@@ -80,7 +79,7 @@ back-read {A} {slot} {ts} {from} {P} {ss} {first} {k} {left} {xs} {ys} {zs} {at}
         rw (v, append-nil, ends) (sym (slots-more ss (slot a) first)) in
         record {
           rows = k + j;
-          is = ap (λ (i : ℕ). the.Tree (k + j) i d) (t .head ∙ ap (λ (w : Trees). head-ref w (first + k)) v ∙ ap (head-ref (slot a)) ends) ∙ ap (λ (i : ℕ). the.Tree (k + j) (head-ref (slot a) (after ss first)) (record { at = i })) (sym place);
+          is = ap (λ (i : ℕ). the.Tree (k + j) i d) (t .head ∙ ap (λ (w : Trees). head-ref w (first + k)) v ∙ ap (head-ref (slot a)) ends) ∙ ap (λ (i : ℕ). the.Tree (k + j) (head-ref (slot a) (after ss first)) i) (sym place);
           stands = record {
             front = front-eq eq fr;
             ends = omega (arith, g′ .ends, ends, ap sizes v, after-more ss (slot a) first);
@@ -98,7 +97,7 @@ back-refused {A} {slot} {ts} {at} {P} {ss} {first} {r} {xs} {ys} {n} {p} {from�
   where
     go : (Q : Parsed A) → Case slot ts at Q ss first r xs ys → Case slot ts from′ Q ss′ first′ r xs′ ys′
     go (refused a b) q = q
-    go (read a at′ left) g = not-both r n p (g .rows) (head-ref (slot a) (after ss first)) (record { at = at′ }) e (g .is)
+    go (read a at′ left) g = not-both r n p (g .rows) (head-ref (slot a) (after ss first)) at′ e (g .is)
 
 -- A reader of the part has the rows that are left.
 pub in-part : {A : Type 0} {slot : A → Trees} {ts : List ℕ} {from : ℕ} {ss : List Trees} {first k left : ℕ} {xs ys : List ℕ} {at b f : ℕ} {r : Read} {vs ws : List ℕ} (reader : ℕ → Parsed A)

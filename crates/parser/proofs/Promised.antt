@@ -7,7 +7,7 @@ use Rattle.grammar.specs.Parsed.{Parsed, refused, read}
 use Rattle.grammar.specs.Script.{answer, pool}
 use Rattle.grammar.proofs.Answers.{answers}
 use Rattle.grammar.proofs.Rows.{pool-rule}
-use Rattle.parser.specs.Entries.{answered, numbers}
+use Rattle.answer.specs.Answer.{answered, numbers}
 use Rattle.parser.specs.Promises.{Once, Numbered, ZeroAfter, Opens, ChainsAnswered, RuleAnswered}
 
 pub once : Once

@@ -12,22 +12,20 @@ use borrow.Author.Tests.{ltb-true, lt-ltb}
 use borrow.Rule.Slice.PartMut.{putMid}
 use Rattle.grammar.specs.Words.{Empty, is}
 use Rattle.grammar.specs.Tree.{Tree, Trees, nil, _▸_, sizes, head-ref, lay, lays}
-use Rattle.grammar.specs.Parsed.{Parsed, refused, read, _>>=_, Check, met, failed, need, _>>_, choose, BadArray, BadStart}
+use Rattle.grammar.specs.Parsed.{Parsed, refused, read, _>>=_, Check, met, failed, need, _>>_, choose, BadStart}
 use Rattle.grammar.specs.Statements as s
-use Rattle.grammar.specs.Script.{both, array-good, words-good, rows, pool, whole-script}
-use Rattle.words.specs.declared.places.Cursor.{Cursor}
-use Rattle.words.specs.Array.{checked}
-use Rattle.words.specs.declared.array.Checked.the-variants.{Good, Bad}
+use Rattle.grammar.specs.Script.{both, array-good, rows, pool, whole-script}
 use Rattle.words.proofs.Arrays as arrays
-use Rattle.parser.specs.declared.Answer.{Answer}
-use Rattle.parser.specs.declared.Answer.the-variants as an
-use Rattle.parser.specs.declared.part.Read.{Read}
-use Rattle.parser.specs.declared.part.Read.the-variants as the
-use Rattle.parser.specs.declared.Start.the-variants as start
+use Rattle.answer.specs.declared.Answer.{Answer}
+use Rattle.answer.specs.declared.Answer.the-variants as an
+use Rattle.answer.specs.declared.Read.{Read}
+use Rattle.answer.specs.declared.Read.the-variants as the
+use Rattle.answer.specs.declared.Start.the-variants as start
 use Rattle.parser.specs.Meets.{Sound, Ready, Meets, Case, many}
 use Rattle.parser.specs.declared.Entry.{Entry}
 use Rattle.parser.specs.declared.Entry.the-variants as what
-use Rattle.parser.specs.Entries.{Entered, ended, ended-pool, checks, start-of, reads, enters, script}
+use Rattle.answer.specs.Answer.{ended, ended-pool, checks, start-of}
+use Rattle.parser.specs.Entries.{Entered, reads, enters, script}
 
 -- A checked array is sound.
 pub sound : {ts : List ℕ} → array-good ts ≡ met → Sound ts
@@ -54,15 +52,15 @@ pub passed : {A : Type 0} {ts : List ℕ} {at : ℕ} (x : Parsed A) → Begins t
 unfolding need _>>_
 passed {ts = ts} {at = at} x b = rw (b .good, lt-ltb at (length ts) (b .within))
 
-pub begins : (ts : List ℕ) (at : ℕ) {c : Cursor} → start-of (checks ts at) at ≡ start.At c → Begins ts at × (c .at ≡ at)
+pub begins : (ts : List ℕ) (at : ℕ) {c : ℕ} → start-of (checks ts at) at ≡ start.At c → Begins ts at × (c ≡ at)
 unfolding checks
 begins ts at {c} e = go (checks ts at) refl e
   where
-    go : (k : Check) → checks ts at ≡ k → start-of k at ≡ start.At c → Begins ts at × (c .at ≡ at)
+    go : (k : Check) → checks ts at ≡ k → start-of k at ≡ start.At c → Begins ts at × (c ≡ at)
     go met q r =
         let m = both-met (array-good ts) (need (ltb at (length ts)) BadStart 0) q in
-        let here : _≡_ {A = Cursor} (record { at = at }) c = cc in
-        (record { good = m .0; within = ltb-true _ _ (need-true _ _ _ (m .1)) }, sym (ap (λ (d : Cursor). d .at) here))
+        let here : at ≡ c = cc in
+        (record { good = m .0; within = ltb-true _ _ (need-true _ _ _ (m .1)) }, sym here)
     go (failed n p) q r = let z : _≡_ {A = ℕ} 0 1 = cc in absurd (omega arith)
 
 -- What a refusal of the start tells.
@@ -83,34 +81,6 @@ denied {A} ts at {n} {p} x e = go (checks ts at) refl e
         let a : m ≡ n = cc in
         let b : j ≡ p = cc in
         rw (← a, ← b) (failed-then (array-good ts) (need (ltb at (length ts)) BadStart 0) m j x q)
-
--- A bad array is refused by one number.
-number : (k : Check) → Type 0
-number met = Unit {0}
-number (failed n p) = n ≡ BadArray
-
-need-number : (b : Bool) (p : ℕ) → number (need b BadArray p)
-unfolding need number
-need-number true p = tt
-need-number false p = refl
-
-both-number : (a b : Check) → number a → number b → number (both a b)
-unfolding both number
-both-number met b h k = k
-both-number (failed n p) b h k = h
-
-words-number : (at : ℕ) (ws : List ℕ) → number (words-good at ws)
-unfolding words-good number
-words-number at [] = tt
-words-number at (w ∷ []) = need-number _ at
-words-number at (w ∷ v ∷ ws) = both-number _ _ (need-number _ at) (words-number (suc at) (v ∷ ws))
-
-pub array-number : (ts : List ℕ) {n p : ℕ} → array-good ts ≡ failed n p → n ≡ BadArray
-unfolding array-good number
-array-number ts {n} {p} e =
-    let a : number (array-good ts) = both-number _ _ (need-number _ 0) (words-number 0 ts) in
-    let h : number (failed n p) = rw e at a in
-    h
 
 -- ---- the pool
 
@@ -218,22 +188,6 @@ finished {r = r} {xs = xs} {zs = zs} n k z e alone same m ea ey =
 pub unread : {P : Parsed Trees} {n p : ℕ} {a : Answer} {ys : List ℕ} (words : ℕ) → P ≡ refused n p → a ≡ an.Refused n p → ys ≡ replicate words 0 → Entered P a words ys
 unfolding pool
 unread words e ea ey = rw e (record { answer = ea; left = ey })
-
--- The start, by what the check of the array answers.
-pub bad-start : (ts : List ℕ) (at : ℕ) {place : ℕ} → checked (array-good ts) ≡ Bad place → start.Refused BadArray place ≡ start-of (checks ts at) at
-unfolding checks both
-bad-start ts at {place} e = go (array-good ts) refl e
-  where
-    go : (k : Check) → array-good ts ≡ k → checked k ≡ Bad place → start.Refused BadArray place ≡ start-of (both k (need (ltb at (length ts)) BadStart 0)) at
-    go met q r = let z : _≡_ {A = ℕ} 0 1 = cc in absurd (omega arith)
-    go (failed n p) q r = let num = array-number ts q in cc
-
-pub good-array : (ts : List ℕ) → checked (array-good ts) ≡ Good → array-good ts ≡ met
-good-array ts e = go (array-good ts) refl e
-  where
-    go : (k : Check) → array-good ts ≡ k → checked k ≡ Good → k ≡ met
-    go met q r = refl
-    go (failed n p) q r = let z : _≡_ {A = ℕ} 0 1 = cc in absurd (omega arith)
 
 -- What an entry reads is alone.
 pub reads-alone : (e : Entry) (ts : List ℕ) (at room : ℕ) → Alone (reads e ts at room)

@@ -9,8 +9,8 @@ use Rattle.grammar.specs.Words.{EOF, SLBrace, KIf, KWhile, KFor, KConst, KVar, 
 use Rattle.grammar.specs.Tree.{Tree, node, Trees, nil, _▸_, size, head-ref}
 use Rattle.grammar.specs.Parsed.{Reader, _>>=_, _>>_, need, build, InvalidSyntax}
 use Rattle.grammar.specs.Expressions.{Rec, pair}
-use Rattle.parser.specs.declared.part.Read.{Read}
-use Rattle.parser.specs.declared.part.Read.the-variants as the
+use Rattle.answer.specs.declared.Read.{Read}
+use Rattle.answer.specs.declared.Read.the-variants as the
 use Rattle.parser.specs.Meets.{Stands, Meets, one, many, Ending, Bounded, after}
 
 -- Nothing: the reader has the whole part.

@@ -7,8 +7,8 @@ use lib.ListN.{length, drop}
 use Rattle.grammar.specs.Words.{tok, valid, EOF}
 use Rattle.grammar.specs.Tree.{Tree, infixed, node, Trees, nil, _▸_, sizes, lays, head-ref}
 use Rattle.grammar.specs.Parsed.{Parsed, refused, read}
-use Rattle.parser.specs.declared.part.Read.{Read}
-use Rattle.parser.specs.declared.part.Read.the-variants as the
+use Rattle.answer.specs.declared.Read.{Read}
+use Rattle.answer.specs.declared.Read.the-variants as the
 
 -- An array that was checked: not too long, every word valid, EOF last.
 pub record Sound (ts : List ℕ) : Type 0 where
@@ -33,7 +33,7 @@ abbrev pub after : List Trees → ℕ → ℕ
 after [] first = first
 after (a ∷ rest) first = after rest (first + sizes a)
 
--- The first k rows of a part are p, and what comes behind is rest it was.
+-- The first k rows of a part are p, and what comes behind is as it was.
 pub record Front (p : List ℕ) (k : ℕ) (xs ys : List ℕ) : Type 0 where
   pub laid : ys ≡ p ++ drop (8 * k) xs
   pub long : length p ≡ 8 * k
@@ -50,10 +50,10 @@ pub record Stands (ts : List ℕ) (from : ℕ) (slots : List Trees) (first k lef
 -- One more slot was read, and the answer says so.
 pub record Got (ts : List ℕ) (from : ℕ) (slot : Trees) (at left : ℕ) (slots : List Trees) (first : ℕ) (r : Read) (xs ys : List ℕ) : Type 0 where
   pub rows : ℕ
-  pub is : r ≡ the.Tree rows (head-ref slot (after slots first)) (record { at = at })
+  pub is : r ≡ the.Tree rows (head-ref slot (after slots first)) at
   pub stands : Stands ts from (slots ++ (slot ∷ [])) first rows left xs ys at
 
--- What is read stands in a slot: a list rest it is, one tree alone.
+-- What is read stands in a slot: a list as it is, one tree alone.
 abbrev pub many : Trees → Trees
 many ts = ts
 
@@ -65,7 +65,7 @@ abbrev pub Case : {A : Type 0} → (A → Trees) → List ℕ → ℕ → Parsed
 Case slot ts from (refused n q) slots first r xs ys = r ≡ the.Refused n q
 Case slot ts from (read a at left) slots first r xs ys = Got ts from (slot a) at left slots first r xs ys
 
--- The answer of a reader that began behind slots, and its part, are rest the definition has them.
+-- The answer of a reader that began behind slots, and its part, are as the definition has them.
 pub record Meets {A : Type 0} (slot : A → Trees) (ts : List ℕ) (from : ℕ) (P : Parsed A) (slots : List Trees) (first : ℕ) (r : Read) (xs ys : List ℕ) : Type 0 where
   pub met : Case slot ts from P slots first r xs ys
 
@@ -108,7 +108,7 @@ pub record Ending (t : Tree) (kind mark place : ℕ) (slots : List Trees) (first
 
 -- The numbers of an answer fit: its rows are in the part, and its cursor is not before the place and in the array.
 abbrev pub BoundedCase : List ℕ → List ℕ → ℕ → Read → Type 0
-BoundedCase ts xs at (the.Tree k h d) = (8 * k ≤ length xs) × (at ≤ d .at) × (d .at < length ts)
+BoundedCase ts xs at (the.Tree k h d) = (8 * k ≤ length xs) × (at ≤ d) × (d < length ts)
 BoundedCase ts xs at (the.Refused n p) = Unit {0}
 
 pub record Bounded (ts xs : List ℕ) (at : ℕ) (r : Read) : Type 0 where

@@ -7,9 +7,10 @@ use Rattle.grammar.specs.Tree.{Trees, sizes, lay}
 use Rattle.grammar.specs.Parsed.{Parsed, read}
 use Rattle.grammar.specs.Script.{one-expression, one-statement, whole-script, rows, answer}
 use Rattle.grammar.specs.Claims.{Grouping, Part, RowsRuled}
-use Rattle.parser.specs.declared.Answer.{Answer}
-use Rattle.parser.specs.declared.Answer.the-variants.{Accepted, Refused}
-use Rattle.parser.specs.Entries.{Entered, numbers}
+use Rattle.answer.specs.declared.Answer.{Answer}
+use Rattle.answer.specs.declared.Answer.the-variants.{Accepted, Refused}
+use Rattle.parser.specs.Entries.{Entered}
+use Rattle.answer.specs.Answer.{numbers}
 
 -- Two results of an entry for one input are one: the answer, and every word of the pool.
 abbrev pub Once : Type 0

@@ -1,9 +1,9 @@
 // Names and dotted names.
 use super::names::*;
-use super::part::Read;
 use super::part::first_of;
 use super::part::leaf;
 use super::part::put_row;
+use answer::Read;
 use words::Cursor;
 use words::Symbol;
 ghost use mathlib.Core.Path.{_≡_};
@@ -16,8 +16,8 @@ ghost use Rattle.parser.specs.Contracts.{Fresh};
 
 // The names behind dots: the loop of parse_dot_expression.
 pub fn dots(tokens: &[u16], pool: &mut [u32], first: usize, c: Cursor) -> Read
-    requires { ⌜ Ready (now tokens) (now pool) first (c .at) ⌝ }
-    ensures { λ r. ⌜ Fresh many (spec.dots (now (tokens .entry)) turns nil) (now (tokens .entry)) (c .at) first r (now (pool .entry)) (now (pool .exit)) ⌝ }
+    requires { ⌜ Ready (now tokens) (now pool) first c ⌝ }
+    ensures { λ r. ⌜ Fresh many (spec.dots (now (tokens .entry)) turns nil) (now (tokens .entry)) c first r (now (pool .entry)) (now (pool .exit)) ⌝ }
 {
     let mut k: usize = 0;
     let mut head: u32 = 0;
@@ -25,9 +25,9 @@ pub fn dots(tokens: &[u16], pool: &mut [u32], first: usize, c: Cursor) -> Read
     while words::next_symbol_is(tokens, d, Symbol::SDot) {
         let e = words::iterate(tokens, words::iterate(tokens, d));
         if !words::is_identifier(tokens, e) {
-            return Read::Refused(INVALID_IDENTIFIER, e.at);
+            return Read::Refused(INVALID_IDENTIFIER, e);
         }
-        let r = put_row(pool, first, k, e, NAME, 0, e.at, 0, 0, 0, 0);
+        let r = put_row(pool, first, k, e, NAME, 0, e, 0, 0, 0, 0);
         let Read::Tree(m, h, g) = r else {
             return r;
         };
@@ -41,8 +41,8 @@ pub fn dots(tokens: &[u16], pool: &mut [u32], first: usize, c: Cursor) -> Read
 
 // parse_dot_expression
 pub fn dot_expression(tokens: &[u16], pool: &mut [u32], first: usize, c: Cursor) -> Read
-    requires { ⌜ (Ready (now tokens) (now pool) first (c .at)) × (tok (now tokens) (c .at) ≡ Identifier) ⌝ }
-    ensures { λ r. ⌜ Fresh one (spec.dot-expression (now (tokens .entry))) (now (tokens .entry)) (c .at) first r (now (pool .entry)) (now (pool .exit)) ⌝ }
+    requires { ⌜ (Ready (now tokens) (now pool) first c) × (tok (now tokens) c ≡ Identifier) ⌝ }
+    ensures { λ r. ⌜ Fresh one (spec.dot-expression (now (tokens .entry))) (now (tokens .entry)) c first r (now (pool .entry)) (now (pool .exit)) ⌝ }
 {
     let r = leaf(pool, first, c, IDENTIFIER, 0);
     let Read::Tree(k, h, d) = r else {
@@ -56,5 +56,5 @@ pub fn dot_expression(tokens: &[u16], pool: &mut [u32], first: usize, c: Cursor)
     let Read::Tree(j, g, e) = q else {
         return q;
     };
-    put_row(pool, first, k + j, e, ATTRIBUTE, 0, c.at, h, g, 0, 0)
+    put_row(pool, first, k + j, e, ATTRIBUTE, 0, c, h, g, 0, 0)
 }

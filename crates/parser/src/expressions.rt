@@ -1,11 +1,11 @@
 // The readers of expressions: one cycle, each named after the original's function.
 use super::dots::dot_expression;
 use super::names::*;
-use super::part::Read;
 use super::part::closed;
 use super::part::first_of;
 use super::part::leaf;
 use super::part::put_row;
+use answer::Read;
 use rows::Flag;
 use words::Cursor;
 use words::Keyword;
@@ -33,11 +33,11 @@ pub fn expression(
     order: usize,
     allow: usize,
 ) -> Read
-    requires { ⌜ Ready (now tokens) (now pool) first (c .at) ⌝ }
-    ensures { λ r. ⌜ Fresh one (spec.expression (now (tokens .entry)) allow order) (now (tokens .entry)) (c .at) first r (now (pool .entry)) (now (pool .exit)) ⌝ }
+    requires { ⌜ Ready (now tokens) (now pool) first c ⌝ }
+    ensures { λ r. ⌜ Fresh one (spec.expression (now (tokens .entry)) allow order) (now (tokens .entry)) c first r (now (pool .entry)) (now (pool .exit)) ⌝ }
 {
     if allow == 0 {
-        return Read::Refused(TOO_DEEP, c.at);
+        return Read::Refused(TOO_DEEP, c);
     }
     let less = allow - 1;
     let r = prefix_part(tokens, pool, first, c, less);
@@ -52,8 +52,8 @@ pub fn expression(
 
 // The match at the head of parse_expression.
 fn prefix_part(tokens: &[u16], pool: &mut [u32], first: usize, c: Cursor, less: usize) -> Read
-    requires { ⌜ Ready (now tokens) (now pool) first (c .at) ⌝ }
-    ensures { λ r. ⌜ Fresh one (spec.prefix-part (now (tokens .entry)) (spec.expression (now (tokens .entry)) less)) (now (tokens .entry)) (c .at) first r (now (pool .entry)) (now (pool .exit)) ⌝ }
+    requires { ⌜ Ready (now tokens) (now pool) first c ⌝ }
+    ensures { λ r. ⌜ Fresh one (spec.prefix-part (now (tokens .entry)) (spec.expression (now (tokens .entry)) less)) (now (tokens .entry)) c first r (now (pool .entry)) (now (pool .exit)) ⌝ }
 {
     let t = words::current(tokens, c);
     match t {
@@ -62,14 +62,14 @@ fn prefix_part(tokens: &[u16], pool: &mut [u32], first: usize, c: Cursor, less: 
         Token::Float => leaf(pool, first, c, FLOAT, 0),
         Token::Char => leaf(pool, first, c, CHAR, 0),
         Token::Str => leaf(pool, first, c, STRING, 0),
-        Token::Keyword(k) => keyword_part(tokens, pool, first, c, k, less),
-        Token::Operator(s) => operator_part(tokens, pool, first, c, s, less),
-        _ => Read::Refused(INVALID_TOKEN, c.at),
+        Token::Keyword(k) => at_keyword(tokens, pool, first, c, k, less),
+        Token::Operator(s) => at_operator(tokens, pool, first, c, s, less),
+        _ => Read::Refused(INVALID_TOKEN, c),
     }
 }
 
 // The expressions that begin with a keyword.
-fn keyword_part(
+fn at_keyword(
     tokens: &[u16],
     pool: &mut [u32],
     first: usize,
@@ -77,8 +77,8 @@ fn keyword_part(
     k: Keyword,
     less: usize,
 ) -> Read
-    requires { ⌜ (Ready (now tokens) (now pool) first (c .at)) × (tok (now tokens) (c .at) ≡ word (token.Keyword k)) ⌝ }
-    ensures { λ r. ⌜ Fresh one (spec.prefix-part (now (tokens .entry)) (spec.expression (now (tokens .entry)) less)) (now (tokens .entry)) (c .at) first r (now (pool .entry)) (now (pool .exit)) ⌝ }
+    requires { ⌜ (Ready (now tokens) (now pool) first c) × (tok (now tokens) c ≡ word (token.Keyword k)) ⌝ }
+    ensures { λ r. ⌜ Fresh one (spec.prefix-part (now (tokens .entry)) (spec.expression (now (tokens .entry)) less)) (now (tokens .entry)) c first r (now (pool .entry)) (now (pool .exit)) ⌝ }
 {
     match k {
         Keyword::KTrue => leaf(pool, first, c, BOOL, 1),
@@ -87,12 +87,12 @@ fn keyword_part(
         Keyword::KNone => leaf(pool, first, c, NONE, 0),
         Keyword::KThread => started(tokens, pool, first, c, Flag::Thread, less),
         Keyword::KAsync => started(tokens, pool, first, c, Flag::Async, less),
-        _ => Read::Refused(NOT_IMPLEMENTED, c.at),
+        _ => Read::Refused(NOT_IMPLEMENTED, c),
     }
 }
 
 // The expressions that begin with an operator.
-fn operator_part(
+fn at_operator(
     tokens: &[u16],
     pool: &mut [u32],
     first: usize,
@@ -100,19 +100,19 @@ fn operator_part(
     s: Symbol,
     less: usize,
 ) -> Read
-    requires { ⌜ (Ready (now tokens) (now pool) first (c .at)) × (tok (now tokens) (c .at) ≡ word (token.Operator s)) ⌝ }
-    ensures { λ r. ⌜ Fresh one (spec.prefix-part (now (tokens .entry)) (spec.expression (now (tokens .entry)) less)) (now (tokens .entry)) (c .at) first r (now (pool .entry)) (now (pool .exit)) ⌝ }
+    requires { ⌜ (Ready (now tokens) (now pool) first c) × (tok (now tokens) c ≡ word (token.Operator s)) ⌝ }
+    ensures { λ r. ⌜ Fresh one (spec.prefix-part (now (tokens .entry)) (spec.expression (now (tokens .entry)) less)) (now (tokens .entry)) c first r (now (pool .entry)) (now (pool .exit)) ⌝ }
 {
     match s {
         Symbol::SLBox => array(tokens, pool, first, c, less),
-        Symbol::SLBrace => hash_literal(tokens, pool, first, c, less),
+        Symbol::SLBrace => hash(tokens, pool, first, c, less),
         Symbol::SIncr => prefix(tokens, pool, first, c, 0, less),
         Symbol::SDecr => prefix(tokens, pool, first, c, 1, less),
         Symbol::SExcl => prefix(tokens, pool, first, c, 2, less),
         Symbol::SNeg => prefix(tokens, pool, first, c, 3, less),
-        Symbol::SLParen => sub_expression(tokens, pool, first, c, less),
+        Symbol::SLParen => sub_exp(tokens, pool, first, c, less),
         Symbol::SDollar => shell(tokens, pool, first, c, less),
-        _ => Read::Refused(INVALID_SYMBOL, c.at),
+        _ => Read::Refused(INVALID_SYMBOL, c),
     }
 }
 
@@ -127,8 +127,8 @@ pub fn around(
     place: usize,
     less: usize,
 ) -> Read
-    requires { ⌜ (Ready (now tokens) (now pool) first (c .at)) × (place < 65536) ⌝ }
-    ensures { λ r. ⌜ Fresh one (contract.around (spec.expression (now (tokens .entry)) less) kind mark place) (now (tokens .entry)) (c .at) first r (now (pool .entry)) (now (pool .exit)) ⌝ }
+    requires { ⌜ (Ready (now tokens) (now pool) first c) × (place < 65536) ⌝ }
+    ensures { λ r. ⌜ Fresh one (contract.around (spec.expression (now (tokens .entry)) less) kind mark place) (now (tokens .entry)) c first r (now (pool .entry)) (now (pool .exit)) ⌝ }
 {
     let r = expression(tokens, pool, first, c, 0, less);
     let Read::Tree(k, h, d) = r else {
@@ -139,8 +139,8 @@ pub fn around(
 
 // parse_prefix_expression, by the mark of its operator.
 fn prefix(tokens: &[u16], pool: &mut [u32], first: usize, c: Cursor, mark: u32, less: usize) -> Read
-    requires { ⌜ Ready (now tokens) (now pool) first (c .at) ⌝ }
-    ensures { λ r. ⌜ Fresh one (spec.prefix (now (tokens .entry)) (spec.expression (now (tokens .entry)) less) mark) (now (tokens .entry)) (c .at) first r (now (pool .entry)) (now (pool .exit)) ⌝ }
+    requires { ⌜ Ready (now tokens) (now pool) first c ⌝ }
+    ensures { λ r. ⌜ Fresh one (spec.prefix (now (tokens .entry)) (spec.expression (now (tokens .entry)) less) mark) (now (tokens .entry)) c first r (now (pool .entry)) (now (pool .exit)) ⌝ }
 {
     around(
         tokens,
@@ -149,15 +149,15 @@ fn prefix(tokens: &[u16], pool: &mut [u32], first: usize, c: Cursor, mark: u32, 
         words::iterate(tokens, c),
         PREFIX,
         mark,
-        c.at,
+        c,
         less,
     )
 }
 
 // parse_shell_expression
 fn shell(tokens: &[u16], pool: &mut [u32], first: usize, c: Cursor, less: usize) -> Read
-    requires { ⌜ Ready (now tokens) (now pool) first (c .at) ⌝ }
-    ensures { λ r. ⌜ Fresh one (spec.shell (now (tokens .entry)) (spec.expression (now (tokens .entry)) less)) (now (tokens .entry)) (c .at) first r (now (pool .entry)) (now (pool .exit)) ⌝ }
+    requires { ⌜ Ready (now tokens) (now pool) first c ⌝ }
+    ensures { λ r. ⌜ Fresh one (spec.shell (now (tokens .entry)) (spec.expression (now (tokens .entry)) less)) (now (tokens .entry)) c first r (now (pool .entry)) (now (pool .exit)) ⌝ }
 {
     let d = words::iterate(tokens, c);
     if words::next_symbol_is(tokens, c, Symbol::SDot) {
@@ -168,11 +168,11 @@ fn shell(tokens: &[u16], pool: &mut [u32], first: usize, c: Cursor, less: usize)
             words::iterate(tokens, d),
             SHELL,
             1,
-            c.at,
+            c,
             less,
         );
     }
-    around(tokens, pool, first, d, SHELL, 0, c.at, less)
+    around(tokens, pool, first, d, SHELL, 0, c, less)
 }
 
 // An expression, or a pair of a hash.
@@ -185,8 +185,8 @@ fn item(
     paired: bool,
     less: usize,
 ) -> Read
-    requires { ⌜ Ready (now tokens) (now pool) first (c .at) ⌝ }
-    ensures { λ r. ⌜ Fresh one (contract.item (now (tokens .entry)) (spec.expression (now (tokens .entry)) less) order paired) (now (tokens .entry)) (c .at) first r (now (pool .entry)) (now (pool .exit)) ⌝ }
+    requires { ⌜ Ready (now tokens) (now pool) first c ⌝ }
+    ensures { λ r. ⌜ Fresh one (contract.item (now (tokens .entry)) (spec.expression (now (tokens .entry)) less) order paired) (now (tokens .entry)) c first r (now (pool .entry)) (now (pool .exit)) ⌝ }
 {
     if paired {
         return pair(tokens, pool, first, c, less);
@@ -205,8 +205,8 @@ pub fn behind(
     paired: bool,
     less: usize,
 ) -> Read
-    requires { ⌜ (Ready (now tokens) (now pool) first (c .at)) × (8 * rows ≤ length (now pool)) ⌝ }
-    ensures { λ r. ⌜ Behind one (contract.item (now (tokens .entry)) (spec.expression (now (tokens .entry)) less) order paired) (now (tokens .entry)) (c .at) first rows r (now (pool .entry)) (now (pool .exit)) ⌝ }
+    requires { ⌜ (Ready (now tokens) (now pool) first c) × (8 * rows ≤ length (now pool)) ⌝ }
+    ensures { λ r. ⌜ Behind one (contract.item (now (tokens .entry)) (spec.expression (now (tokens .entry)) less) order paired) (now (tokens .entry)) c first rows r (now (pool .entry)) (now (pool .exit)) ⌝ }
 {
     let i = 8 * rows;
     let r = item(tokens, &mut pool[i..], first + rows, c, order, paired, less);
@@ -227,8 +227,8 @@ fn entries(
     paired: bool,
     less: usize,
 ) -> Read
-    requires { ⌜ (Ready (now tokens) (now pool) first (c .at)) × (8 * rows ≤ length (now pool)) ⌝ }
-    ensures { λ r. ⌜ Extends (spec.entries (now (tokens .entry)) (spec.expression (now (tokens .entry)) less) (contract.item (now (tokens .entry)) (spec.expression (now (tokens .entry)) less) 0 paired) turns) (now (tokens .entry)) (c .at) first rows head r (now (pool .entry)) (now (pool .exit)) ⌝ }
+    requires { ⌜ (Ready (now tokens) (now pool) first c) × (8 * rows ≤ length (now pool)) ⌝ }
+    ensures { λ r. ⌜ Extends (spec.entries (now (tokens .entry)) (spec.expression (now (tokens .entry)) less) (contract.item (now (tokens .entry)) (spec.expression (now (tokens .entry)) less) 0 paired) turns) (now (tokens .entry)) c first rows head r (now (pool .entry)) (now (pool .exit)) ⌝ }
 {
     let mut k = rows;
     let mut h = head;
@@ -249,8 +249,8 @@ fn entries(
 
 // parse_list_expr
 pub fn list_expr(tokens: &[u16], pool: &mut [u32], first: usize, c: Cursor, less: usize) -> Read
-    requires { ⌜ Ready (now tokens) (now pool) first (c .at) ⌝ }
-    ensures { λ r. ⌜ Fresh many (spec.list-expr (now (tokens .entry)) (spec.expression (now (tokens .entry)) less)) (now (tokens .entry)) (c .at) first r (now (pool .entry)) (now (pool .exit)) ⌝ }
+    requires { ⌜ Ready (now tokens) (now pool) first c ⌝ }
+    ensures { λ r. ⌜ Fresh many (spec.list-expr (now (tokens .entry)) (spec.expression (now (tokens .entry)) less)) (now (tokens .entry)) c first r (now (pool .entry)) (now (pool .exit)) ⌝ }
 {
     if words::next_symbol_is(tokens, c, Symbol::SRparen) {
         return Read::Tree(0, 0, c);
@@ -264,8 +264,8 @@ pub fn list_expr(tokens: &[u16], pool: &mut [u32], first: usize, c: Cursor, less
 
 // parse_pair
 fn pair(tokens: &[u16], pool: &mut [u32], first: usize, c: Cursor, less: usize) -> Read
-    requires { ⌜ Ready (now tokens) (now pool) first (c .at) ⌝ }
-    ensures { λ r. ⌜ Fresh one (spec.pair (now (tokens .entry)) (spec.expression (now (tokens .entry)) less)) (now (tokens .entry)) (c .at) first r (now (pool .entry)) (now (pool .exit)) ⌝ }
+    requires { ⌜ Ready (now tokens) (now pool) first c ⌝ }
+    ensures { λ r. ⌜ Fresh one (spec.pair (now (tokens .entry)) (spec.expression (now (tokens .entry)) less)) (now (tokens .entry)) c first r (now (pool .entry)) (now (pool .exit)) ⌝ }
 {
     let r = expression(tokens, pool, first, c, 0, less);
     let Read::Tree(k, h, d) = r else {
@@ -273,7 +273,7 @@ fn pair(tokens: &[u16], pool: &mut [u32], first: usize, c: Cursor, less: usize) 
     };
     let e = words::iterate(tokens, d);
     if !words::next_symbol_is(tokens, d, Symbol::SColon) {
-        return Read::Refused(EXPECTED_COLON, d.at);
+        return Read::Refused(EXPECTED_COLON, d);
     }
     let q = behind(
         tokens,
@@ -288,17 +288,17 @@ fn pair(tokens: &[u16], pool: &mut [u32], first: usize, c: Cursor, less: usize) 
     let Read::Tree(m, g, f) = q else {
         return q;
     };
-    put_row(pool, first, m, f, PAIR, 0, e.at, h, g, 0, 0)
+    put_row(pool, first, m, f, PAIR, 0, e, h, g, 0, 0)
 }
 
 // parse_hash_literal
-fn hash_literal(tokens: &[u16], pool: &mut [u32], first: usize, c: Cursor, less: usize) -> Read
-    requires { ⌜ Ready (now tokens) (now pool) first (c .at) ⌝ }
-    ensures { λ r. ⌜ Fresh one (spec.hash-literal (now (tokens .entry)) (spec.expression (now (tokens .entry)) less)) (now (tokens .entry)) (c .at) first r (now (pool .entry)) (now (pool .exit)) ⌝ }
+fn hash(tokens: &[u16], pool: &mut [u32], first: usize, c: Cursor, less: usize) -> Read
+    requires { ⌜ Ready (now tokens) (now pool) first c ⌝ }
+    ensures { λ r. ⌜ Fresh one (spec.hash-literal (now (tokens .entry)) (spec.expression (now (tokens .entry)) less)) (now (tokens .entry)) c first r (now (pool .entry)) (now (pool .exit)) ⌝ }
 {
     let d = words::iterate(tokens, c);
     if words::next_symbol_is(tokens, c, Symbol::SRBrace) {
-        return put_row(pool, first, 0, d, HASH, 0, c.at, 0, 0, 0, 0);
+        return put_row(pool, first, 0, d, HASH, 0, c, 0, 0, 0, 0);
     }
     let r = pair(tokens, pool, first, d, less);
     let Read::Tree(k, h, e) = r else {
@@ -317,7 +317,7 @@ fn hash_literal(tokens: &[u16], pool: &mut [u32], first: usize, c: Cursor, less:
         Symbol::SRBrace,
         HASH_NOT_TERMINATED,
         HASH,
-        c.at,
+        c,
         g,
         0,
     )
@@ -325,8 +325,8 @@ fn hash_literal(tokens: &[u16], pool: &mut [u32], first: usize, c: Cursor, less:
 
 // parse_array_expression
 fn array(tokens: &[u16], pool: &mut [u32], first: usize, c: Cursor, less: usize) -> Read
-    requires { ⌜ Ready (now tokens) (now pool) first (c .at) ⌝ }
-    ensures { λ r. ⌜ Fresh one (spec.array (now (tokens .entry)) (spec.expression (now (tokens .entry)) less)) (now (tokens .entry)) (c .at) first r (now (pool .entry)) (now (pool .exit)) ⌝ }
+    requires { ⌜ Ready (now tokens) (now pool) first c ⌝ }
+    ensures { λ r. ⌜ Fresh one (spec.array (now (tokens .entry)) (spec.expression (now (tokens .entry)) less)) (now (tokens .entry)) c first r (now (pool .entry)) (now (pool .exit)) ⌝ }
 {
     if words::next_symbol_is(tokens, c, Symbol::SRBox) {
         return put_row(
@@ -336,7 +336,7 @@ fn array(tokens: &[u16], pool: &mut [u32], first: usize, c: Cursor, less: usize)
             words::iterate(tokens, c),
             ARRAY,
             0,
-            c.at,
+            c,
             0,
             0,
             0,
@@ -356,7 +356,7 @@ fn array(tokens: &[u16], pool: &mut [u32], first: usize, c: Cursor, less: usize)
         Symbol::SRBox,
         ARRAY_NOT_TERMINATED,
         ARRAY,
-        c.at,
+        c,
         h,
         0,
     )
@@ -364,28 +364,28 @@ fn array(tokens: &[u16], pool: &mut [u32], first: usize, c: Cursor, less: usize)
 
 // parse_lambda_exp
 fn lambda(tokens: &[u16], pool: &mut [u32], first: usize, c: Cursor, less: usize) -> Read
-    requires { ⌜ Ready (now tokens) (now pool) first (c .at) ⌝ }
-    ensures { λ r. ⌜ Fresh one (spec.lambda (now (tokens .entry)) (spec.expression (now (tokens .entry)) less)) (now (tokens .entry)) (c .at) first r (now (pool .entry)) (now (pool .exit)) ⌝ }
+    requires { ⌜ Ready (now tokens) (now pool) first c ⌝ }
+    ensures { λ r. ⌜ Fresh one (spec.lambda (now (tokens .entry)) (spec.expression (now (tokens .entry)) less)) (now (tokens .entry)) c first r (now (pool .entry)) (now (pool .exit)) ⌝ }
 {
     if words::next_symbol_is(tokens, c, Symbol::SSemiColon) {
-        return Read::Refused(INVALID_SYNTAX, c.at);
+        return Read::Refused(INVALID_SYNTAX, c);
     }
     if words::next_symbol_is(tokens, c, Symbol::SImpl) {
-        return Read::Refused(NO_PARAMETERS, c.at);
+        return Read::Refused(NO_PARAMETERS, c);
     }
     let r = list_expr(tokens, pool, first, c, less);
     let Read::Tree(k, h, d) = r else {
         return r;
     };
     if !words::next_symbol_is(tokens, d, Symbol::SImpl) {
-        return Read::Refused(EXPECTED_ARROW, d.at);
+        return Read::Refused(EXPECTED_ARROW, d);
     }
     let e = words::iterate(tokens, words::iterate(tokens, d));
     let q = behind(tokens, pool, first, k, e, 0, false, less);
     let Read::Tree(m, g, f) = q else {
         return q;
     };
-    put_row(pool, first, m, f, LAMBDA, 0, c.at, h, g, 0, 0)
+    put_row(pool, first, m, f, LAMBDA, 0, c, h, g, 0, 0)
 }
 
 // parse_thread_exp and parse_async_expr, by the flag that they set.
@@ -397,35 +397,35 @@ fn started(
     flag: Flag,
     less: usize,
 ) -> Read
-    requires { ⌜ Ready (now tokens) (now pool) first (c .at) ⌝ }
-    ensures { λ r. ⌜ Fresh one (spec.started (now (tokens .entry)) (spec.expression (now (tokens .entry)) less) (bit flag)) (now (tokens .entry)) (c .at) first r (now (pool .entry)) (now (pool .exit)) ⌝ }
+    requires { ⌜ Ready (now tokens) (now pool) first c ⌝ }
+    ensures { λ r. ⌜ Fresh one (spec.started (now (tokens .entry)) (spec.expression (now (tokens .entry)) less) (bit flag)) (now (tokens .entry)) c first r (now (pool .entry)) (now (pool .exit)) ⌝ }
 {
     let r = expression(tokens, pool, first, words::iterate(tokens, c), 0, less);
     let Read::Tree(k, _, d) = r else {
         return r;
     };
     if rows::kind(pool, k) != CALL {
-        return Read::Refused(NOT_CALLABLE, d.at);
+        return Read::Refused(NOT_CALLABLE, d);
     }
     rows::mark(pool, k, flag);
     r
 }
 
 // parse_sub_expression
-fn sub_expression(tokens: &[u16], pool: &mut [u32], first: usize, c: Cursor, less: usize) -> Read
-    requires { ⌜ Ready (now tokens) (now pool) first (c .at) ⌝ }
-    ensures { λ r. ⌜ Fresh one (spec.sub-expression (now (tokens .entry)) (spec.expression (now (tokens .entry)) less)) (now (tokens .entry)) (c .at) first r (now (pool .entry)) (now (pool .exit)) ⌝ }
+fn sub_exp(tokens: &[u16], pool: &mut [u32], first: usize, c: Cursor, less: usize) -> Read
+    requires { ⌜ Ready (now tokens) (now pool) first c ⌝ }
+    ensures { λ r. ⌜ Fresh one (spec.sub-expression (now (tokens .entry)) (spec.expression (now (tokens .entry)) less)) (now (tokens .entry)) c first r (now (pool .entry)) (now (pool .exit)) ⌝ }
 {
     let d = words::iterate(tokens, c);
     if words::next_symbol_is(tokens, d, Symbol::SRparen) {
-        return Read::Refused(INVALID_SYNTAX, d.at);
+        return Read::Refused(INVALID_SYNTAX, d);
     }
     let r = expression(tokens, pool, first, d, 0, less);
     let Read::Tree(k, h, e) = r else {
         return r;
     };
     if !words::next_symbol_is(tokens, e, Symbol::SRparen) {
-        return Read::Refused(INVALID_SYNTAX, e.at);
+        return Read::Refused(INVALID_SYNTAX, e);
     }
     rows::mark(pool, k, Flag::Grouped);
     Read::Tree(k, h, words::iterate(tokens, e))
@@ -442,8 +442,8 @@ fn climb(
     order: usize,
     less: usize,
 ) -> Read
-    requires { ⌜ (Ready (now tokens) (now pool) first (c .at)) × (8 * rows ≤ length (now pool)) ⌝ }
-    ensures { λ r. ⌜ Follows (spec.climb (now (tokens .entry)) (spec.expression (now (tokens .entry)) less) order turns) (now (tokens .entry)) (c .at) first rows head r (now (pool .entry)) (now (pool .exit)) ⌝ }
+    requires { ⌜ (Ready (now tokens) (now pool) first c) × (8 * rows ≤ length (now pool)) ⌝ }
+    ensures { λ r. ⌜ Follows (spec.climb (now (tokens .entry)) (spec.expression (now (tokens .entry)) less) order turns) (now (tokens .entry)) c first rows head r (now (pool .entry)) (now (pool .exit)) ⌝ }
 {
     let mut k = rows;
     let mut h = head;
@@ -470,24 +470,24 @@ fn operation(
     c: Cursor,
     less: usize,
 ) -> Read
-    requires { ⌜ (Ready (now tokens) (now pool) first (c .at)) × (8 * rows ≤ length (now pool)) ⌝ }
-    ensures { λ r. ⌜ Follows (spec.operation (now (tokens .entry)) (spec.expression (now (tokens .entry)) less)) (now (tokens .entry)) (c .at) first rows head r (now (pool .entry)) (now (pool .exit)) ⌝ }
+    requires { ⌜ (Ready (now tokens) (now pool) first c) × (8 * rows ≤ length (now pool)) ⌝ }
+    ensures { λ r. ⌜ Follows (spec.operation (now (tokens .entry)) (spec.expression (now (tokens .entry)) less)) (now (tokens .entry)) c first rows head r (now (pool .entry)) (now (pool .exit)) ⌝ }
 {
     let t = words::current(tokens, c);
     let Token::Operator(s) = t else {
-        return infix_expression(tokens, pool, first, rows, head, c, less);
+        return infix_exp(tokens, pool, first, rows, head, c, less);
     };
     match s {
-        Symbol::SIncr => put_row(pool, first, rows, c, SUFFIX, 0, c.at, head, 0, 0, 0),
-        Symbol::SDecr => put_row(pool, first, rows, c, SUFFIX, 1, c.at, head, 0, 0, 0),
+        Symbol::SIncr => put_row(pool, first, rows, c, SUFFIX, 0, c, head, 0, 0, 0),
+        Symbol::SDecr => put_row(pool, first, rows, c, SUFFIX, 1, c, head, 0, 0, 0),
         Symbol::SLParen => call(tokens, pool, first, rows, head, c, less),
         Symbol::SLBox => index(tokens, pool, first, rows, head, c, less),
-        _ => infix_expression(tokens, pool, first, rows, head, c, less),
+        _ => infix_exp(tokens, pool, first, rows, head, c, less),
     }
 }
 
 // parse_infix_expression
-fn infix_expression(
+fn infix_exp(
     tokens: &[u16],
     pool: &mut [u32],
     first: usize,
@@ -496,8 +496,8 @@ fn infix_expression(
     c: Cursor,
     less: usize,
 ) -> Read
-    requires { ⌜ (Ready (now tokens) (now pool) first (c .at)) × (8 * rows ≤ length (now pool)) ⌝ }
-    ensures { λ r. ⌜ Follows (spec.infix-expression (now (tokens .entry)) (spec.expression (now (tokens .entry)) less)) (now (tokens .entry)) (c .at) first rows head r (now (pool .entry)) (now (pool .exit)) ⌝ }
+    requires { ⌜ (Ready (now tokens) (now pool) first c) × (8 * rows ≤ length (now pool)) ⌝ }
+    ensures { λ r. ⌜ Follows (spec.infix-expression (now (tokens .entry)) (spec.expression (now (tokens .entry)) less)) (now (tokens .entry)) c first rows head r (now (pool .entry)) (now (pool .exit)) ⌝ }
 {
     let t = words::current(tokens, c);
     let d = words::iterate(tokens, c);
@@ -521,7 +521,7 @@ fn infix_expression(
         e,
         INFIX,
         words::infix_mark(t),
-        c.at,
+        c,
         head,
         h,
         0,
@@ -538,8 +538,8 @@ fn list_behind(
     c: Cursor,
     less: usize,
 ) -> Read
-    requires { ⌜ (Ready (now tokens) (now pool) first (c .at)) × (8 * rows ≤ length (now pool)) ⌝ }
-    ensures { λ r. ⌜ Behind many (spec.list-expr (now (tokens .entry)) (spec.expression (now (tokens .entry)) less)) (now (tokens .entry)) (c .at) first rows r (now (pool .entry)) (now (pool .exit)) ⌝ }
+    requires { ⌜ (Ready (now tokens) (now pool) first c) × (8 * rows ≤ length (now pool)) ⌝ }
+    ensures { λ r. ⌜ Behind many (spec.list-expr (now (tokens .entry)) (spec.expression (now (tokens .entry)) less)) (now (tokens .entry)) c first rows r (now (pool .entry)) (now (pool .exit)) ⌝ }
 {
     let i = 8 * rows;
     let r = list_expr(tokens, &mut pool[i..], first + rows, c, less);
@@ -559,19 +559,19 @@ fn call(
     c: Cursor,
     less: usize,
 ) -> Read
-    requires { ⌜ (Ready (now tokens) (now pool) first (c .at)) × (8 * rows ≤ length (now pool)) ⌝ }
-    ensures { λ r. ⌜ Follows (spec.call (now (tokens .entry)) (spec.expression (now (tokens .entry)) less)) (now (tokens .entry)) (c .at) first rows head r (now (pool .entry)) (now (pool .exit)) ⌝ }
+    requires { ⌜ (Ready (now tokens) (now pool) first c) × (8 * rows ≤ length (now pool)) ⌝ }
+    ensures { λ r. ⌜ Follows (spec.call (now (tokens .entry)) (spec.expression (now (tokens .entry)) less)) (now (tokens .entry)) c first rows head r (now (pool .entry)) (now (pool .exit)) ⌝ }
 {
     if words::next_symbol_is(tokens, c, Symbol::SRparen) {
         let d = words::iterate(tokens, c);
-        return put_row(pool, first, rows, d, CALL, 0, c.at, head, 0, 0, 0);
+        return put_row(pool, first, rows, d, CALL, 0, c, head, 0, 0, 0);
     }
     let r = list_behind(tokens, pool, first, rows, c, less);
     let Read::Tree(k, h, e) = r else {
         return r;
     };
     let f = words::iterate(tokens, e);
-    put_row(pool, first, k, f, CALL, 0, c.at, head, h, 0, 0)
+    put_row(pool, first, k, f, CALL, 0, c, head, h, 0, 0)
 }
 
 // parse_index_expression
@@ -584,8 +584,8 @@ fn index(
     c: Cursor,
     less: usize,
 ) -> Read
-    requires { ⌜ (Ready (now tokens) (now pool) first (c .at)) × (8 * rows ≤ length (now pool)) ⌝ }
-    ensures { λ r. ⌜ Follows (spec.index (now (tokens .entry)) (spec.expression (now (tokens .entry)) less)) (now (tokens .entry)) (c .at) first rows head r (now (pool .entry)) (now (pool .exit)) ⌝ }
+    requires { ⌜ (Ready (now tokens) (now pool) first c) × (8 * rows ≤ length (now pool)) ⌝ }
+    ensures { λ r. ⌜ Follows (spec.index (now (tokens .entry)) (spec.expression (now (tokens .entry)) less)) (now (tokens .entry)) c first rows head r (now (pool .entry)) (now (pool .exit)) ⌝ }
 {
     let r = behind(
         tokens,
@@ -609,7 +609,7 @@ fn index(
         Symbol::SRBox,
         INVALID_SYNTAX,
         INDEX,
-        c.at,
+        c,
         head,
         h,
     )

@@ -1,8 +1,4 @@
 // The numbers of refusals and of kinds of rows, by name.
-pub const BAD_ARRAY: u32 = 1;
-
-pub const BAD_START: u32 = 4;
-
 pub const TOO_DEEP: u32 = 2;
 
 pub const INVALID_SYNTAX: u32 = 10;

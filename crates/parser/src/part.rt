@@ -1,4 +1,5 @@
-// What a reader answers, and the rows that readers end with.
+// The rows that readers end with.
+use answer::Read;
 use rows::Built;
 use rows::Row;
 use words::Cursor;
@@ -17,13 +18,6 @@ ghost use Rattle.parser.specs.Meets.{Ready, one};
 ghost use Rattle.parser.specs.Contracts.{Fresh, Ends};
 ghost use Rattle.parser.specs.Contracts as contract;
 
-// How many rows of its part a reader has filled, the reference of what it read (of a list its first, 0 for none) and the next cursor;
-// or a refusal, by its number and place.
-pub enum Read {
-    Tree(usize, u32, Cursor),
-    Refused(u32, usize),
-}
-
 // A row behind the first `rows` rows of a part, before which the pool has `first` rows.
 pub fn put_row(
     pool: &mut [u32],
@@ -39,7 +33,7 @@ pub fn put_row(
     c3: u32,
 ) -> Read
     requires { ⌜ (8 * first + length (now pool) ≤ 524280) × (place < 65536) ⌝ }
-    ensures { λ r. ⌜ ((ts : List ℕ) → c .at < length ts → Ends build ts (c .at) first rows kind mark place c0 c1 c2 c3 r (now (pool .entry)) (now (pool .exit))) ⌝ }
+    ensures { λ r. ⌜ ((ts : List ℕ) → c < length ts → Ends build ts c first rows kind mark place c0 c1 c2 c3 r (now (pool .entry)) (now (pool .exit))) ⌝ }
 {
     let row = Row {
         kind: kind,
@@ -50,7 +44,7 @@ pub fn put_row(
         c2: c2,
         c3: c3,
     };
-    let b = rows::build(pool, rows, row, c.at);
+    let b = rows::build(pool, rows, row, c);
     match b {
         Built::Rows(k) => Read::Tree(k, (first + k) as u32, c),
         Built::Refused(n, p) => Read::Refused(n, p),
@@ -59,10 +53,10 @@ pub fn put_row(
 
 // A row without children, at the current token.
 pub fn leaf(pool: &mut [u32], first: usize, c: Cursor, kind: u32, mark: u32) -> Read
-    requires { ⌜ (8 * first + length (now pool) ≤ 524280) × (c .at < 65536) ⌝ }
-    ensures { λ r. ⌜ ((ts : List ℕ) → c .at < length ts → Fresh one (λ at. build (tree.leaf kind mark at) at) ts (c .at) first r (now (pool .entry)) (now (pool .exit))) ⌝ }
+    requires { ⌜ (8 * first + length (now pool) ≤ 524280) × (c < 65536) ⌝ }
+    ensures { λ r. ⌜ ((ts : List ℕ) → c < length ts → Fresh one (λ at. build (tree.leaf kind mark at) at) ts c first r (now (pool .entry)) (now (pool .exit))) ⌝ }
 {
-    put_row(pool, first, 0, c, kind, mark, c.at, 0, 0, 0, 0)
+    put_row(pool, first, 0, c, kind, mark, c, 0, 0, 0, 0)
 }
 
 // A row whose closing sign comes next, or else the refusal `number`.
@@ -79,8 +73,8 @@ pub fn closed(
     c0: u32,
     c1: u32,
 ) -> Read
-    requires { ⌜ (Ready (now tokens) (now pool) first (c .at)) × (place < 65536) ⌝ }
-    ensures { λ r. ⌜ Ends (contract.closed (now (tokens .entry)) (word (token.Operator close)) number) (now (tokens .entry)) (c .at) first rows kind 0 place c0 c1 0 0 r (now (pool .entry)) (now (pool .exit)) ⌝ }
+    requires { ⌜ (Ready (now tokens) (now pool) first c) × (place < 65536) ⌝ }
+    ensures { λ r. ⌜ Ends (contract.closed (now (tokens .entry)) (word (token.Operator close)) number) (now (tokens .entry)) c first rows kind 0 place c0 c1 0 0 r (now (pool .entry)) (now (pool .exit)) ⌝ }
 {
     if words::next_symbol_is(tokens, c, close) {
         return put_row(
@@ -97,7 +91,7 @@ pub fn closed(
             0,
         );
     }
-    Read::Refused(number, c.at)
+    Read::Refused(number, c)
 }
 
 // The reference of a list's first member, once another is behind the first `rows` rows.

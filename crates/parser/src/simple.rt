@@ -3,16 +3,17 @@ use super::expressions::around;
 use super::expressions::behind;
 use super::expressions::expression;
 use super::names::*;
-use super::part::Read;
+use super::part::closed;
 use super::part::put_row;
+use answer::Read;
 use words::Cursor;
 use words::Symbol;
 use words::Token;
 ghost use mathlib.Core.Path.{_≡_};
 ghost use Prim.Native.Nat.{ℕ, _*_, _≤_, _<_};
 ghost use lib.ListN.{length};
-ghost use Rattle.grammar.specs.Words.{tok, step};
-ghost use Rattle.grammar.specs.Tree.{node, nil};
+ghost use Rattle.grammar.specs.Words.{SSemiColon, step};
+ghost use Rattle.grammar.specs.Tree.{leaf, node, nil};
 ghost use Rattle.grammar.specs.Parsed.{turns};
 ghost use Rattle.grammar.specs.Expressions.{expression};
 ghost use Rattle.grammar.specs.Statements as spec;
@@ -21,6 +22,33 @@ ghost use Rattle.words.specs.declared.tokens.Token.the-variants as token;
 ghost use Rattle.parser.specs.Meets.{Ready, one, many};
 ghost use Rattle.parser.specs.Contracts.{Fresh, Behind, Extends, Begun, further};
 ghost use Rattle.parser.specs.Contracts as contract;
+
+// A statement of one row that ends in a semicolon, or else the refusal `number`: break and continue.
+pub fn alone(
+    tokens: &[u16],
+    pool: &mut [u32],
+    first: usize,
+    c: Cursor,
+    kind: u32,
+    number: u32,
+) -> Read
+    requires { ⌜ Ready (now tokens) (now pool) first c ⌝ }
+    ensures { λ r. ⌜ Fresh one (λ at. contract.closed (now (tokens .entry)) SSemiColon number (leaf kind 0 at) at) (now (tokens .entry)) c first r (now (pool .entry)) (now (pool .exit)) ⌝ }
+{
+    closed(
+        tokens,
+        pool,
+        first,
+        0,
+        c,
+        Symbol::SSemiColon,
+        number,
+        kind,
+        c,
+        0,
+        0,
+    )
+}
 
 // A sign that comes next, or else the refusal `number`; and the expression after it, behind the first `rows` rows of the part.
 pub fn behind_sign(
@@ -33,11 +61,11 @@ pub fn behind_sign(
     number: u32,
     less: usize,
 ) -> Read
-    requires { ⌜ (Ready (now tokens) (now pool) first (c .at)) × (8 * rows ≤ length (now pool)) ⌝ }
-    ensures { λ r. ⌜ Behind one (contract.behind-sign (now (tokens .entry)) (expression (now (tokens .entry)) less) (word sign) number) (now (tokens .entry)) (c .at) first rows r (now (pool .entry)) (now (pool .exit)) ⌝ }
+    requires { ⌜ (Ready (now tokens) (now pool) first c) × (8 * rows ≤ length (now pool)) ⌝ }
+    ensures { λ r. ⌜ Behind one (contract.behind-sign (now (tokens .entry)) (expression (now (tokens .entry)) less) (word sign) number) (now (tokens .entry)) c first rows r (now (pool .entry)) (now (pool .exit)) ⌝ }
 {
     if !words::next_is(tokens, c, sign) {
-        return Read::Refused(number, c.at);
+        return Read::Refused(number, c);
     }
     let d = words::iterate(tokens, words::iterate(tokens, c));
     behind(tokens, pool, first, rows, d, 0, false, less)
@@ -51,8 +79,8 @@ pub fn assert_statement(
     c: Cursor,
     less: usize,
 ) -> Read
-    requires { ⌜ Ready (now tokens) (now pool) first (c .at) ⌝ }
-    ensures { λ r. ⌜ Fresh one (spec.assert (now (tokens .entry)) (expression (now (tokens .entry)) less) (spec.statement (now (tokens .entry)) less)) (now (tokens .entry)) (c .at) first r (now (pool .entry)) (now (pool .exit)) ⌝ }
+    requires { ⌜ Ready (now tokens) (now pool) first c ⌝ }
+    ensures { λ r. ⌜ Fresh one (spec.assert (now (tokens .entry)) (expression (now (tokens .entry)) less) (spec.statement (now (tokens .entry)) less)) (now (tokens .entry)) c first r (now (pool .entry)) (now (pool .exit)) ⌝ }
 {
     let r = expression(tokens, pool, first, words::iterate(tokens, c), 0, less);
     let Read::Tree(k, h, d) = r else {
@@ -60,24 +88,24 @@ pub fn assert_statement(
     };
     if words::next_symbol_is(tokens, d, Symbol::SSemiColon) {
         let e = words::iterate(tokens, d);
-        return Read::Refused(ASSERT_WITHOUT_ACTION, e.at);
+        return Read::Refused(ASSERT_WITHOUT_ACTION, e);
     }
     let comma = Token::Operator(Symbol::SComma);
     let q = behind_sign(tokens, pool, first, k, d, comma, ASSERT_WITHOUT_COMMA, less);
     let Read::Tree(m, g, f) = q else {
         return q;
     };
-    put_row(pool, first, m, f, ASSERT, 0, c.at, h, g, 0, 0)
+    put_row(pool, first, m, f, ASSERT, 0, c, h, g, 0, 0)
 }
 
 // The value of parse_var_or_const, behind the name.
 fn value(tokens: &[u16], pool: &mut [u32], first: usize, c: Cursor, kind: u32, less: usize) -> Read
-    requires { ⌜ Ready (now tokens) (now pool) first (c .at) ⌝ }
-    ensures { λ r. ⌜ Fresh one (λ at. spec.value (now (tokens .entry)) (expression (now (tokens .entry)) less) (spec.statement (now (tokens .entry)) less) (λ v. node kind 0 at v nil nil nil) (step (now (tokens .entry)) at)) (now (tokens .entry)) (c .at) first r (now (pool .entry)) (now (pool .exit)) ⌝ }
+    requires { ⌜ Ready (now tokens) (now pool) first c ⌝ }
+    ensures { λ r. ⌜ Fresh one (λ at. spec.value (now (tokens .entry)) (expression (now (tokens .entry)) less) (spec.statement (now (tokens .entry)) less) (λ v. node kind 0 at v nil nil nil) (step (now (tokens .entry)) at)) (now (tokens .entry)) c first r (now (pool .entry)) (now (pool .exit)) ⌝ }
 {
     let d = words::iterate(tokens, c);
     if !words::current_symbol_is(tokens, d, Symbol::SEq) {
-        return Read::Refused(EXPECTED_EQ, d.at);
+        return Read::Refused(EXPECTED_EQ, d);
     }
     around(
         tokens,
@@ -86,18 +114,18 @@ fn value(tokens: &[u16], pool: &mut [u32], first: usize, c: Cursor, kind: u32, l
         words::iterate(tokens, d),
         kind,
         0,
-        c.at,
+        c,
         less,
     )
 }
 
 // parse_var_or_const for var, at the name.
 pub fn var_statement(tokens: &[u16], pool: &mut [u32], first: usize, c: Cursor, less: usize) -> Read
-    requires { ⌜ Ready (now tokens) (now pool) first (c .at) ⌝ }
-    ensures { λ r. ⌜ Fresh one (spec.var (now (tokens .entry)) (expression (now (tokens .entry)) less) (spec.statement (now (tokens .entry)) less)) (now (tokens .entry)) (c .at) first r (now (pool .entry)) (now (pool .exit)) ⌝ }
+    requires { ⌜ Ready (now tokens) (now pool) first c ⌝ }
+    ensures { λ r. ⌜ Fresh one (spec.var (now (tokens .entry)) (expression (now (tokens .entry)) less) (spec.statement (now (tokens .entry)) less)) (now (tokens .entry)) c first r (now (pool .entry)) (now (pool .exit)) ⌝ }
 {
     if !words::is_identifier(tokens, c) {
-        return Read::Refused(INVALID_IDENTIFIER, c.at);
+        return Read::Refused(INVALID_IDENTIFIER, c);
     }
     if words::next_symbol_is(tokens, c, Symbol::SSemiColon) {
         return put_row(
@@ -107,7 +135,7 @@ pub fn var_statement(tokens: &[u16], pool: &mut [u32], first: usize, c: Cursor, 
             words::iterate(tokens, c),
             VAR,
             0,
-            c.at,
+            c,
             0,
             0,
             0,
@@ -125,15 +153,15 @@ pub fn const_statement(
     c: Cursor,
     less: usize,
 ) -> Read
-    requires { ⌜ Ready (now tokens) (now pool) first (c .at) ⌝ }
-    ensures { λ r. ⌜ Fresh one (spec.const (now (tokens .entry)) (expression (now (tokens .entry)) less) (spec.statement (now (tokens .entry)) less)) (now (tokens .entry)) (c .at) first r (now (pool .entry)) (now (pool .exit)) ⌝ }
+    requires { ⌜ Ready (now tokens) (now pool) first c ⌝ }
+    ensures { λ r. ⌜ Fresh one (spec.const (now (tokens .entry)) (expression (now (tokens .entry)) less) (spec.statement (now (tokens .entry)) less)) (now (tokens .entry)) c first r (now (pool .entry)) (now (pool .exit)) ⌝ }
 {
     if !words::is_identifier(tokens, c) {
-        return Read::Refused(INVALID_IDENTIFIER, c.at);
+        return Read::Refused(INVALID_IDENTIFIER, c);
     }
     if words::next_symbol_is(tokens, c, Symbol::SSemiColon) {
         let d = words::iterate(tokens, c);
-        return Read::Refused(CONST_WITHOUT_VALUE, d.at);
+        return Read::Refused(CONST_WITHOUT_VALUE, d);
     }
     value(tokens, pool, first, c, CONST, less)
 }
@@ -146,12 +174,12 @@ pub fn return_statement(
     c: Cursor,
     less: usize,
 ) -> Read
-    requires { ⌜ Ready (now tokens) (now pool) first (c .at) ⌝ }
-    ensures { λ r. ⌜ Fresh one (spec.return (now (tokens .entry)) (expression (now (tokens .entry)) less) (spec.statement (now (tokens .entry)) less)) (now (tokens .entry)) (c .at) first r (now (pool .entry)) (now (pool .exit)) ⌝ }
+    requires { ⌜ Ready (now tokens) (now pool) first c ⌝ }
+    ensures { λ r. ⌜ Fresh one (spec.return (now (tokens .entry)) (expression (now (tokens .entry)) less) (spec.statement (now (tokens .entry)) less)) (now (tokens .entry)) c first r (now (pool .entry)) (now (pool .exit)) ⌝ }
 {
     let d = words::iterate(tokens, c);
     if words::next_symbol_is(tokens, c, Symbol::SSemiColon) {
-        return put_row(pool, first, 0, d, RETURN, 0, c.at, 0, 0, 0, 0);
+        return put_row(pool, first, 0, d, RETURN, 0, c, 0, 0, 0, 0);
     }
-    around(tokens, pool, first, d, RETURN, 0, c.at, less)
+    around(tokens, pool, first, d, RETURN, 0, c, less)
 }

@@ -3,15 +3,16 @@ use super::expressions::around;
 use super::expressions::expression;
 use super::expressions::list_expr;
 use super::names::*;
-use super::part::Read;
 use super::part::closed;
 use super::part::first_of;
 use super::part::put_row;
+use super::simple::alone;
 use super::simple::assert_statement;
 use super::simple::behind_sign;
 use super::simple::const_statement;
 use super::simple::return_statement;
 use super::simple::var_statement;
+use answer::Read;
 use words::Cursor;
 use words::Keyword;
 use words::Symbol;
@@ -32,18 +33,18 @@ ghost use Rattle.parser.specs.Contracts as contract;
 
 // parse_statement, where `allow` more expressions and statements may be open.
 pub fn statement(tokens: &[u16], pool: &mut [u32], first: usize, c: Cursor, allow: usize) -> Read
-    requires { ⌜ Ready (now tokens) (now pool) first (c .at) ⌝ }
-    ensures { λ r. ⌜ Fresh many (spec.statement (now (tokens .entry)) allow) (now (tokens .entry)) (c .at) first r (now (pool .entry)) (now (pool .exit)) ⌝ }
+    requires { ⌜ Ready (now tokens) (now pool) first c ⌝ }
+    ensures { λ r. ⌜ Fresh many (spec.statement (now (tokens .entry)) allow) (now (tokens .entry)) c first r (now (pool .entry)) (now (pool .exit)) ⌝ }
 {
     if allow == 0 {
-        return Read::Refused(TOO_DEEP, c.at);
+        return Read::Refused(TOO_DEEP, c);
     }
     let less = allow - 1;
     let t = words::current(tokens, c);
     match t {
         Token::Empty => Read::Tree(0, 0, c),
-        Token::Keyword(k) => keyword_statement(tokens, pool, first, c, k, less),
-        _ => around(tokens, pool, first, c, EXPRESSION, 0, c.at, less),
+        Token::Keyword(k) => at_keyword(tokens, pool, first, c, k, less),
+        _ => around(tokens, pool, first, c, EXPRESSION, 0, c, less),
     }
 }
 
@@ -67,7 +68,7 @@ fn goes_further(k: Keyword) -> bool
 }
 
 // The statements that begin with a keyword.
-fn keyword_statement(
+fn at_keyword(
     tokens: &[u16],
     pool: &mut [u32],
     first: usize,
@@ -75,43 +76,18 @@ fn keyword_statement(
     k: Keyword,
     less: usize,
 ) -> Read
-    requires { ⌜ (Ready (now tokens) (now pool) first (c .at)) × (tok (now tokens) (c .at) ≡ word (token.Keyword k)) ⌝ }
-    ensures { λ r. ⌜ Fresh one (spec.kept (now (tokens .entry)) (expression (now (tokens .entry)) less) (spec.statement (now (tokens .entry)) less)) (now (tokens .entry)) (c .at) first r (now (pool .entry)) (now (pool .exit)) ⌝ }
+    requires { ⌜ (Ready (now tokens) (now pool) first c) × (tok (now tokens) c ≡ word (token.Keyword k)) ⌝ }
+    ensures { λ r. ⌜ Fresh one (spec.kept (now (tokens .entry)) (expression (now (tokens .entry)) less) (spec.statement (now (tokens .entry)) less)) (now (tokens .entry)) c first r (now (pool .entry)) (now (pool .exit)) ⌝ }
 {
     let d = words::iterate(tokens, c);
     if goes_further(k) {
         if words::next_symbol_is(tokens, c, Symbol::SSemiColon) {
-            return Read::Refused(INVALID_SYNTAX, d.at);
+            return Read::Refused(INVALID_SYNTAX, d);
         }
     }
-    let semicolon = Symbol::SSemiColon;
     match k {
-        Keyword::KBreak => closed(
-            tokens,
-            pool,
-            first,
-            0,
-            c,
-            semicolon,
-            BREAK_WITHOUT_SEMICOLON,
-            BREAK,
-            c.at,
-            0,
-            0,
-        ),
-        Keyword::KContinue => closed(
-            tokens,
-            pool,
-            first,
-            0,
-            c,
-            semicolon,
-            CONTINUE_WITHOUT_SEMICOLON,
-            CONTINUE,
-            c.at,
-            0,
-            0,
-        ),
+        Keyword::KBreak => alone(tokens, pool, first, c, BREAK, BREAK_WITHOUT_SEMICOLON),
+        Keyword::KContinue => alone(tokens, pool, first, c, CONTINUE, CONTINUE_WITHOUT_SEMICOLON),
         Keyword::KVar => var_statement(tokens, pool, first, d, less),
         Keyword::KConst => const_statement(tokens, pool, first, d, less),
         Keyword::KIf => if_statement(tokens, pool, first, c, less),
@@ -120,10 +96,10 @@ fn keyword_statement(
         Keyword::KReturn => return_statement(tokens, pool, first, c, less),
         Keyword::KFunc => function(tokens, pool, first, d, less),
         Keyword::KFor => for_loop(tokens, pool, first, c, less),
-        Keyword::KThrow => around(tokens, pool, first, d, THROW, 0, c.at, less),
+        Keyword::KThrow => around(tokens, pool, first, d, THROW, 0, c, less),
         Keyword::KTry => try_statement(tokens, pool, first, c, less),
         Keyword::KForEach => for_each(tokens, pool, first, c, less),
-        _ => around(tokens, pool, first, c, EXPRESSION, 0, c.at, less),
+        _ => around(tokens, pool, first, c, EXPRESSION, 0, c, less),
     }
 }
 
@@ -138,8 +114,8 @@ pub fn statements(
     close: Token,
     allow: usize,
 ) -> Read
-    requires { ⌜ (Ready (now tokens) (now pool) first (c .at)) × (8 * rows ≤ length (now pool)) ⌝ }
-    ensures { λ r. ⌜ Extends (spec.statements (now (tokens .entry)) (expression (now (tokens .entry)) allow) (spec.statement (now (tokens .entry)) allow) (word close) turns) (now (tokens .entry)) (c .at) first rows head r (now (pool .entry)) (now (pool .exit)) ⌝ }
+    requires { ⌜ (Ready (now tokens) (now pool) first c) × (8 * rows ≤ length (now pool)) ⌝ }
+    ensures { λ r. ⌜ Extends (spec.statements (now (tokens .entry)) (expression (now (tokens .entry)) allow) (spec.statement (now (tokens .entry)) allow) (word close) turns) (now (tokens .entry)) c first rows head r (now (pool .entry)) (now (pool .exit)) ⌝ }
 {
     let mut k = rows;
     let mut h = head;
@@ -148,7 +124,7 @@ pub fn statements(
         if words::current_symbol_is(tokens, d, Symbol::SSemiColon) {
             d = words::iterate(tokens, d);
         } else {
-            let r = statement_behind(tokens, pool, first, k, d, allow);
+            let r = one_behind(tokens, pool, first, k, d, allow);
             let Read::Tree(m, g, e) = r else {
                 return r;
             };
@@ -162,7 +138,7 @@ pub fn statements(
 }
 
 // A statement behind the first `rows` rows of the part.
-fn statement_behind(
+fn one_behind(
     tokens: &[u16],
     pool: &mut [u32],
     first: usize,
@@ -170,8 +146,8 @@ fn statement_behind(
     c: Cursor,
     allow: usize,
 ) -> Read
-    requires { ⌜ (Ready (now tokens) (now pool) first (c .at)) × (8 * rows ≤ length (now pool)) ⌝ }
-    ensures { λ r. ⌜ (Begun (now (tokens .entry)) (c .at) r) × (Behind many (spec.statement (now (tokens .entry)) allow) (now (tokens .entry)) (c .at) first rows r (now (pool .entry)) (now (pool .exit))) ⌝ }
+    requires { ⌜ (Ready (now tokens) (now pool) first c) × (8 * rows ≤ length (now pool)) ⌝ }
+    ensures { λ r. ⌜ (Begun (now (tokens .entry)) c r) × (Behind many (spec.statement (now (tokens .entry)) allow) (now (tokens .entry)) c first rows r (now (pool .entry)) (now (pool .exit))) ⌝ }
 {
     let i = 8 * rows;
     let r = statement(tokens, &mut pool[i..], first + rows, c, allow);
@@ -183,13 +159,13 @@ fn statement_behind(
 
 // parse_block_statement, whose opener comes next and may be any token.
 fn block(tokens: &[u16], pool: &mut [u32], first: usize, c: Cursor, less: usize) -> Read
-    requires { ⌜ Ready (now tokens) (now pool) first (c .at) ⌝ }
-    ensures { λ r. ⌜ Fresh one (spec.block (now (tokens .entry)) (expression (now (tokens .entry)) less) (spec.statement (now (tokens .entry)) less)) (now (tokens .entry)) (c .at) first r (now (pool .entry)) (now (pool .exit)) ⌝ }
+    requires { ⌜ Ready (now tokens) (now pool) first c ⌝ }
+    ensures { λ r. ⌜ Fresh one (spec.block (now (tokens .entry)) (expression (now (tokens .entry)) less) (spec.statement (now (tokens .entry)) less)) (now (tokens .entry)) c first r (now (pool .entry)) (now (pool .exit)) ⌝ }
 {
     let d = words::iterate(tokens, c);
     let e = words::iterate(tokens, d);
     if words::next_symbol_is(tokens, d, Symbol::SRBrace) {
-        return put_row(pool, first, 0, e, BLOCK, 0, d.at, 0, 0, 0, 0);
+        return put_row(pool, first, 0, e, BLOCK, 0, d, 0, 0, 0, 0);
     }
     let r = statement(tokens, pool, first, e, less);
     let Read::Tree(k, h, f) = r else {
@@ -201,7 +177,7 @@ fn block(tokens: &[u16], pool: &mut [u32], first: usize, c: Cursor, less: usize)
     let Read::Tree(m, i, j) = q else {
         return q;
     };
-    put_row(pool, first, m, j, BLOCK, 0, d.at, i, 0, 0, 0)
+    put_row(pool, first, m, j, BLOCK, 0, d, i, 0, 0, 0)
 }
 
 // A block behind the first `rows` rows of the part.
@@ -213,8 +189,8 @@ fn block_behind(
     c: Cursor,
     less: usize,
 ) -> Read
-    requires { ⌜ (Ready (now tokens) (now pool) first (c .at)) × (8 * rows ≤ length (now pool)) ⌝ }
-    ensures { λ r. ⌜ Behind one (spec.block (now (tokens .entry)) (expression (now (tokens .entry)) less) (spec.statement (now (tokens .entry)) less)) (now (tokens .entry)) (c .at) first rows r (now (pool .entry)) (now (pool .exit)) ⌝ }
+    requires { ⌜ (Ready (now tokens) (now pool) first c) × (8 * rows ≤ length (now pool)) ⌝ }
+    ensures { λ r. ⌜ Behind one (spec.block (now (tokens .entry)) (expression (now (tokens .entry)) less) (spec.statement (now (tokens .entry)) less)) (now (tokens .entry)) c first rows r (now (pool .entry)) (now (pool .exit)) ⌝ }
 {
     let i = 8 * rows;
     let r = block(tokens, &mut pool[i..], first + rows, c, less);
@@ -236,29 +212,29 @@ fn body(
     bare: u32,
     less: usize,
 ) -> Read
-    requires { ⌜ (Ready (now tokens) (now pool) first (c .at)) × (8 * rows ≤ length (now pool)) ⌝ }
-    ensures { λ r. ⌜ Behind one (contract.body (now (tokens .entry)) (spec.block (now (tokens .entry)) (expression (now (tokens .entry)) less) (spec.statement (now (tokens .entry)) less)) (word (token.Operator sign)) missing bare) (now (tokens .entry)) (c .at) first rows r (now (pool .entry)) (now (pool .exit)) ⌝ }
+    requires { ⌜ (Ready (now tokens) (now pool) first c) × (8 * rows ≤ length (now pool)) ⌝ }
+    ensures { λ r. ⌜ Behind one (contract.body (now (tokens .entry)) (spec.block (now (tokens .entry)) (expression (now (tokens .entry)) less) (spec.statement (now (tokens .entry)) less)) (word (token.Operator sign)) missing bare) (now (tokens .entry)) c first rows r (now (pool .entry)) (now (pool .exit)) ⌝ }
 {
     if !words::next_symbol_is(tokens, c, sign) {
-        return Read::Refused(missing, c.at);
+        return Read::Refused(missing, c);
     }
     let d = words::iterate(tokens, c);
     if !words::next_symbol_is(tokens, d, Symbol::SLBrace) {
-        return Read::Refused(bare, d.at);
+        return Read::Refused(bare, d);
     }
     block_behind(tokens, pool, first, rows, d, less)
 }
 
 // parse_function_statement behind `func`, at the name.
 fn function(tokens: &[u16], pool: &mut [u32], first: usize, c: Cursor, less: usize) -> Read
-    requires { ⌜ Ready (now tokens) (now pool) first (c .at) ⌝ }
-    ensures { λ r. ⌜ Fresh one (spec.function (now (tokens .entry)) (expression (now (tokens .entry)) less) (spec.statement (now (tokens .entry)) less)) (now (tokens .entry)) (c .at) first r (now (pool .entry)) (now (pool .exit)) ⌝ }
+    requires { ⌜ Ready (now tokens) (now pool) first c ⌝ }
+    ensures { λ r. ⌜ Fresh one (spec.function (now (tokens .entry)) (expression (now (tokens .entry)) less) (spec.statement (now (tokens .entry)) less)) (now (tokens .entry)) c first r (now (pool .entry)) (now (pool .exit)) ⌝ }
 {
     if !words::is_identifier(tokens, c) {
-        return Read::Refused(FUNC_WITHOUT_NAME, c.at);
+        return Read::Refused(FUNC_WITHOUT_NAME, c);
     }
     if !words::next_symbol_is(tokens, c, Symbol::SLParen) {
-        return Read::Refused(INVALID_SYNTAX, c.at);
+        return Read::Refused(INVALID_SYNTAX, c);
     }
     let r = list_expr(tokens, pool, first, words::iterate(tokens, c), less);
     let Read::Tree(k, h, d) = r else {
@@ -279,17 +255,17 @@ fn function(tokens: &[u16], pool: &mut [u32], first: usize, c: Cursor, less: usi
     let Read::Tree(m, g, f) = q else {
         return q;
     };
-    put_row(pool, first, m, f, FUNCTION, 0, c.at, h, g, 0, 0)
+    put_row(pool, first, m, f, FUNCTION, 0, c, h, g, 0, 0)
 }
 
 // parse_if_statement
 fn if_statement(tokens: &[u16], pool: &mut [u32], first: usize, c: Cursor, less: usize) -> Read
-    requires { ⌜ Ready (now tokens) (now pool) first (c .at) ⌝ }
-    ensures { λ r. ⌜ Fresh one (spec.if (now (tokens .entry)) (expression (now (tokens .entry)) less) (spec.statement (now (tokens .entry)) less)) (now (tokens .entry)) (c .at) first r (now (pool .entry)) (now (pool .exit)) ⌝ }
+    requires { ⌜ Ready (now tokens) (now pool) first c ⌝ }
+    ensures { λ r. ⌜ Fresh one (spec.if (now (tokens .entry)) (expression (now (tokens .entry)) less) (spec.statement (now (tokens .entry)) less)) (now (tokens .entry)) c first r (now (pool .entry)) (now (pool .exit)) ⌝ }
 {
     let d = words::iterate(tokens, c);
     if !words::next_symbol_is(tokens, c, Symbol::SLParen) {
-        return Read::Refused(INVALID_SYNTAX, d.at);
+        return Read::Refused(INVALID_SYNTAX, d);
     }
     let r = expression(tokens, pool, first, words::iterate(tokens, d), 0, less);
     let Read::Tree(k0, h0, e0) = r else {
@@ -314,7 +290,7 @@ fn if_statement(tokens: &[u16], pool: &mut [u32], first: usize, c: Cursor, less:
     let Read::Tree(k2, h2, e2) = r2 else {
         return r2;
     };
-    put_row(pool, first, k2, e2, IF, 0, c.at, h0, h1, h2, 0)
+    put_row(pool, first, k2, e2, IF, 0, c, h0, h1, h2, 0)
 }
 
 // The end of parse_if_statement: the block of an else, or none.
@@ -326,26 +302,26 @@ fn else_block(
     c: Cursor,
     less: usize,
 ) -> Read
-    requires { ⌜ (Ready (now tokens) (now pool) first (c .at)) × (8 * rows ≤ length (now pool)) ⌝ }
-    ensures { λ r. ⌜ Behind many (spec.else (now (tokens .entry)) (expression (now (tokens .entry)) less) (spec.statement (now (tokens .entry)) less)) (now (tokens .entry)) (c .at) first rows r (now (pool .entry)) (now (pool .exit)) ⌝ }
+    requires { ⌜ (Ready (now tokens) (now pool) first c) × (8 * rows ≤ length (now pool)) ⌝ }
+    ensures { λ r. ⌜ Behind many (spec.else (now (tokens .entry)) (expression (now (tokens .entry)) less) (spec.statement (now (tokens .entry)) less)) (now (tokens .entry)) c first rows r (now (pool .entry)) (now (pool .exit)) ⌝ }
 {
     if !words::next_keyword_is(tokens, c, Keyword::KElse) {
         return Read::Tree(rows, 0, c);
     }
     let d = words::iterate(tokens, c);
     if !words::next_symbol_is(tokens, d, Symbol::SLBrace) {
-        return Read::Refused(INVALID_SYNTAX, d.at);
+        return Read::Refused(INVALID_SYNTAX, d);
     }
     block_behind(tokens, pool, first, rows, d, less)
 }
 
 // parse_while_statement
 fn while_statement(tokens: &[u16], pool: &mut [u32], first: usize, c: Cursor, less: usize) -> Read
-    requires { ⌜ Ready (now tokens) (now pool) first (c .at) ⌝ }
-    ensures { λ r. ⌜ Fresh one (spec.while (now (tokens .entry)) (expression (now (tokens .entry)) less) (spec.statement (now (tokens .entry)) less)) (now (tokens .entry)) (c .at) first r (now (pool .entry)) (now (pool .exit)) ⌝ }
+    requires { ⌜ Ready (now tokens) (now pool) first c ⌝ }
+    ensures { λ r. ⌜ Fresh one (spec.while (now (tokens .entry)) (expression (now (tokens .entry)) less) (spec.statement (now (tokens .entry)) less)) (now (tokens .entry)) c first r (now (pool .entry)) (now (pool .exit)) ⌝ }
 {
     if !words::next_symbol_is(tokens, c, Symbol::SLParen) {
-        return Read::Refused(INVALID_SYNTAX, c.at);
+        return Read::Refused(INVALID_SYNTAX, c);
     }
     let d = words::iterate(tokens, words::iterate(tokens, c));
     let r = expression(tokens, pool, first, d, 0, less);
@@ -356,7 +332,7 @@ fn while_statement(tokens: &[u16], pool: &mut [u32], first: usize, c: Cursor, le
     let Read::Tree(m, g, f) = q else {
         return q;
     };
-    put_row(pool, first, m, f, WHILE, 0, c.at, h, g, 0, 0)
+    put_row(pool, first, m, f, WHILE, 0, c, h, g, 0, 0)
 }
 
 // A sign that comes next, and the block after it, whose opener may be any token.
@@ -369,19 +345,19 @@ fn open_body(
     sign: Symbol,
     less: usize,
 ) -> Read
-    requires { ⌜ (Ready (now tokens) (now pool) first (c .at)) × (8 * rows ≤ length (now pool)) ⌝ }
-    ensures { λ r. ⌜ Behind one (contract.open-body (now (tokens .entry)) (spec.block (now (tokens .entry)) (expression (now (tokens .entry)) less) (spec.statement (now (tokens .entry)) less)) (word (token.Operator sign))) (now (tokens .entry)) (c .at) first rows r (now (pool .entry)) (now (pool .exit)) ⌝ }
+    requires { ⌜ (Ready (now tokens) (now pool) first c) × (8 * rows ≤ length (now pool)) ⌝ }
+    ensures { λ r. ⌜ Behind one (contract.open-body (now (tokens .entry)) (spec.block (now (tokens .entry)) (expression (now (tokens .entry)) less) (spec.statement (now (tokens .entry)) less)) (word (token.Operator sign))) (now (tokens .entry)) c first rows r (now (pool .entry)) (now (pool .exit)) ⌝ }
 {
     if !words::next_symbol_is(tokens, c, sign) {
-        return Read::Refused(INVALID_SYNTAX, c.at);
+        return Read::Refused(INVALID_SYNTAX, c);
     }
     block_behind(tokens, pool, first, rows, words::iterate(tokens, c), less)
 }
 
 // parse_for_each_statement
 fn for_each(tokens: &[u16], pool: &mut [u32], first: usize, c: Cursor, less: usize) -> Read
-    requires { ⌜ Ready (now tokens) (now pool) first (c .at) ⌝ }
-    ensures { λ r. ⌜ Fresh one (spec.foreach (now (tokens .entry)) (expression (now (tokens .entry)) less) (spec.statement (now (tokens .entry)) less)) (now (tokens .entry)) (c .at) first r (now (pool .entry)) (now (pool .exit)) ⌝ }
+    requires { ⌜ Ready (now tokens) (now pool) first c ⌝ }
+    ensures { λ r. ⌜ Fresh one (spec.foreach (now (tokens .entry)) (expression (now (tokens .entry)) less) (spec.statement (now (tokens .entry)) less)) (now (tokens .entry)) c first r (now (pool .entry)) (now (pool .exit)) ⌝ }
 {
     let r0 = expression(tokens, pool, first, words::iterate(tokens, c), 0, less);
     let Read::Tree(k0, h0, e0) = r0 else {
@@ -400,13 +376,13 @@ fn for_each(tokens: &[u16], pool: &mut [u32], first: usize, c: Cursor, less: usi
     let Read::Tree(k3, h3, e3) = r3 else {
         return r3;
     };
-    put_row(pool, first, k3, e3, FOREACH, 0, c.at, h0, h1, h2, h3)
+    put_row(pool, first, k3, e3, FOREACH, 0, c, h0, h1, h2, h3)
 }
 
 // parse_for_loop_statement
 fn for_loop(tokens: &[u16], pool: &mut [u32], first: usize, c: Cursor, less: usize) -> Read
-    requires { ⌜ Ready (now tokens) (now pool) first (c .at) ⌝ }
-    ensures { λ r. ⌜ Fresh one (spec.for (now (tokens .entry)) (expression (now (tokens .entry)) less) (spec.statement (now (tokens .entry)) less)) (now (tokens .entry)) (c .at) first r (now (pool .entry)) (now (pool .exit)) ⌝ }
+    requires { ⌜ Ready (now tokens) (now pool) first c ⌝ }
+    ensures { λ r. ⌜ Fresh one (spec.for (now (tokens .entry)) (expression (now (tokens .entry)) less) (spec.statement (now (tokens .entry)) less)) (now (tokens .entry)) c first r (now (pool .entry)) (now (pool .exit)) ⌝ }
 {
     let r0 = expression(tokens, pool, first, words::iterate(tokens, c), 0, less);
     let Read::Tree(k0, h0, e0) = r0 else {
@@ -432,7 +408,7 @@ fn for_loop(tokens: &[u16], pool: &mut [u32], first: usize, c: Cursor, less: usi
     let Read::Tree(k2, h2, e2) = r2 else {
         return r2;
     };
-    put_row(pool, first, k2, e2, FOR, 0, c.at, h0, h1, h2, 0)
+    put_row(pool, first, k2, e2, FOR, 0, c, h0, h1, h2, 0)
 }
 
 // The end of parse_try_statement: the block of a finally, or none.
@@ -444,8 +420,8 @@ fn finally_block(
     c: Cursor,
     less: usize,
 ) -> Read
-    requires { ⌜ (Ready (now tokens) (now pool) first (c .at)) × (8 * rows ≤ length (now pool)) ⌝ }
-    ensures { λ r. ⌜ Behind many (spec.finally (now (tokens .entry)) (expression (now (tokens .entry)) less) (spec.statement (now (tokens .entry)) less)) (now (tokens .entry)) (c .at) first rows r (now (pool .entry)) (now (pool .exit)) ⌝ }
+    requires { ⌜ (Ready (now tokens) (now pool) first c) × (8 * rows ≤ length (now pool)) ⌝ }
+    ensures { λ r. ⌜ Behind many (spec.finally (now (tokens .entry)) (expression (now (tokens .entry)) less) (spec.statement (now (tokens .entry)) less)) (now (tokens .entry)) c first rows r (now (pool .entry)) (now (pool .exit)) ⌝ }
 {
     if !words::next_keyword_is(tokens, c, Keyword::KFinally) {
         return Read::Tree(rows, 0, c);
@@ -462,19 +438,19 @@ fn catch_block(
     c: Cursor,
     less: usize,
 ) -> Read
-    requires { ⌜ (Ready (now tokens) (now pool) first (c .at)) × (8 * rows ≤ length (now pool)) ⌝ }
-    ensures { λ r. ⌜ Behind one (contract.braced (now (tokens .entry)) (spec.block (now (tokens .entry)) (expression (now (tokens .entry)) less) (spec.statement (now (tokens .entry)) less))) (now (tokens .entry)) (c .at) first rows r (now (pool .entry)) (now (pool .exit)) ⌝ }
+    requires { ⌜ (Ready (now tokens) (now pool) first c) × (8 * rows ≤ length (now pool)) ⌝ }
+    ensures { λ r. ⌜ Behind one (contract.braced (now (tokens .entry)) (spec.block (now (tokens .entry)) (expression (now (tokens .entry)) less) (spec.statement (now (tokens .entry)) less))) (now (tokens .entry)) c first rows r (now (pool .entry)) (now (pool .exit)) ⌝ }
 {
     if !words::next_symbol_is(tokens, c, Symbol::SLBrace) {
-        return Read::Refused(INVALID_SYNTAX, c.at);
+        return Read::Refused(INVALID_SYNTAX, c);
     }
     block_behind(tokens, pool, first, rows, c, less)
 }
 
 // parse_try_statement
 fn try_statement(tokens: &[u16], pool: &mut [u32], first: usize, c: Cursor, less: usize) -> Read
-    requires { ⌜ Ready (now tokens) (now pool) first (c .at) ⌝ }
-    ensures { λ r. ⌜ Fresh one (spec.try (now (tokens .entry)) (expression (now (tokens .entry)) less) (spec.statement (now (tokens .entry)) less)) (now (tokens .entry)) (c .at) first r (now (pool .entry)) (now (pool .exit)) ⌝ }
+    requires { ⌜ Ready (now tokens) (now pool) first c ⌝ }
+    ensures { λ r. ⌜ Fresh one (spec.try (now (tokens .entry)) (expression (now (tokens .entry)) less) (spec.statement (now (tokens .entry)) less)) (now (tokens .entry)) c first r (now (pool .entry)) (now (pool .exit)) ⌝ }
 {
     let r0 = catch_block(tokens, pool, first, 0, c, less);
     let Read::Tree(k0, h0, e0) = r0 else {
@@ -493,5 +469,5 @@ fn try_statement(tokens: &[u16], pool: &mut [u32], first: usize, c: Cursor, less
     let Read::Tree(k3, h3, e3) = r3 else {
         return r3;
     };
-    put_row(pool, first, k3, e3, TRY, 0, c.at, h0, h1, h2, h3)
+    put_row(pool, first, k3, e3, TRY, 0, c, h0, h1, h2, h3)
 }

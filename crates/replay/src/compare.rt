@@ -1,7 +1,7 @@
 // The comparison of an answer and its pool with a record.
 use crate::stream;
 use crate::stream::Record;
-use parser::Answer;
+use answer::Answer;
 
 // Whether an answer's numbers are those of a record.
 fn has_numbers(record: Record, answer: Answer) -> bool {

@@ -4,7 +4,7 @@ mod stream;
 mod tally;
 
 use compare::is_recorded;
-use parser::Answer;
+use answer::Answer;
 use stream::Case;
 use stream::Next;
 use stream::Recorded;

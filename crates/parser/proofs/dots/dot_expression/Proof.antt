@@ -77,10 +77,10 @@ returns-3 : tie.Need-returns-3
 unfolding dot-expression get-identifier is
 returns-3 c =
     let h = taken (c .before .before .before .before .before .before .before .before .before .before .before .before .before .leaf .ensures (c .before .before .before .before .before .before .before .before .before .before .before .before .before .before .before .before .before .args .tokens .now) (c .before .before .before .before .before .before .before .before .before .before .before .before .before .before .before .before .before .pre .0 .within)) (c .before .before .before .before .before .before .before .before .before .r .given .1) in
-    by-eq (then-eq _ (need-met _ _ _ (eq-eqb _ _ (c .before .before .before .before .before .before .before .before .before .before .before .before .before .before .before .before .before .pre .1))) ∙ then-read _ (h .eq) ∙ choose-true _ _ (sym (c .before .before .before .before .before .before .before .next-symbol-is .ensures) ∙ not-false _ (c .before .before .before .before .before .before .if1 .left))) (pass _ (in-part (dots (c .before .before .before .before .before .before .before .before .before .before .before .before .before .before .before .before .before .args .tokens .now) turns nil (c .before .before .before .before .before .before .before .before .before .r .given .0 .1 .1 .0 .at)) (h .stands) (c .before .before .before .before .dots .ensures)) (c .enum-told2 .given .1))
+    by-eq (then-eq _ (need-met _ _ _ (eq-eqb _ _ (c .before .before .before .before .before .before .before .before .before .before .before .before .before .before .before .before .before .pre .1))) ∙ then-read _ (h .eq) ∙ choose-true _ _ (sym (c .before .before .before .before .before .before .before .next-symbol-is .ensures) ∙ not-false _ (c .before .before .before .before .before .before .if1 .left))) (pass _ (in-part (dots (c .before .before .before .before .before .before .before .before .before .before .before .before .before .before .before .before .before .args .tokens .now) turns nil (c .before .before .before .before .before .before .before .before .before .r .given .0 .1 .1 .0)) (h .stands) (c .before .before .before .before .dots .ensures)) (c .enum-told2 .given .1))
 
 add-put-row : tie.Need-add-put-row
-add-put-row c = let h = taken (c .before .before .before .before .before .before .before .before .before .before .before .before .before .before .before .leaf .ensures (c .before .before .before .before .before .before .before .before .before .before .before .before .before .before .before .before .before .before .before .args .tokens .now) (c .before .before .before .before .before .before .before .before .before .before .before .before .before .before .before .before .before .before .before .pre .0 .within)) (c .before .before .before .before .before .before .before .before .before .before .before .r .given .1) in let q = taken (back-read (h .stands) (in-part (dots (c .before .before .before .before .before .before .before .before .before .before .before .before .before .before .before .before .before .before .before .args .tokens .now) turns nil (c .before .before .before .before .before .before .before .before .before .before .before .r .given .0 .1 .1 .0 .at)) (h .stands) (c .before .before .before .before .before .before .dots .ensures)) (c .before .before .q .given .1)) refl in omega (arith, q .stands .front .fit, c .before .before .before .before .before .before .before .before .before .before .before .before .before .before .before .before .before .before .before .pre .0 .fits)
+add-put-row c = let h = taken (c .before .before .before .before .before .before .before .before .before .before .before .before .before .before .before .leaf .ensures (c .before .before .before .before .before .before .before .before .before .before .before .before .before .before .before .before .before .before .before .args .tokens .now) (c .before .before .before .before .before .before .before .before .before .before .before .before .before .before .before .before .before .before .before .pre .0 .within)) (c .before .before .before .before .before .before .before .before .before .before .before .r .given .1) in let q = taken (back-read (h .stands) (in-part (dots (c .before .before .before .before .before .before .before .before .before .before .before .before .before .before .before .before .before .before .before .args .tokens .now) turns nil (c .before .before .before .before .before .before .before .before .before .before .before .r .given .0 .1 .1 .0)) (h .stands) (c .before .before .before .before .before .before .dots .ensures)) (c .before .before .q .given .1)) refl in omega (arith, q .stands .front .fit, c .before .before .before .before .before .before .before .before .before .before .before .before .before .before .before .before .before .before .before .pre .0 .fits)
 
 put-row-requires : tie.Need-put-row-requires
 put-row-requires c κs = (fits-same _ _ _ (c .before .before .before .before .before .before .before .before .before .before .before .before .before .before .before .before .before .before .before .pre .0 .fits) (back-same (c .before .before .before .before .before .before .before .before .before .before .before .r .given .0 .0) (c .before .before .before .before .before .before .before .before .before .before .before .before .before .before .before .leaf .last .0) (c .before .before .before .before .before .before .dots .last .1 .0) (c .before .before .before .before .before .before .dots .kept .1 .0) ∙ c .before .before .before .before .before .before .before .before .before .before .before .before .before .before .before .leaf .kept .0), small (c .before .before .before .before .before .before .before .before .before .before .before .before .before .before .before .before .before .before .before .pre .0))
@@ -92,7 +92,7 @@ returns-4 : tie.Need-returns-4
 unfolding dot-expression get-identifier is
 returns-4 c =
     let h = taken (c .before .before .before .before .before .before .before .before .before .before .before .before .before .before .before .before .before .before .leaf .ensures (c .before .before .before .before .before .before .before .before .before .before .before .before .before .before .before .before .before .before .before .before .before .before .args .tokens .now) (c .before .before .before .before .before .before .before .before .before .before .before .before .before .before .before .before .before .before .before .before .before .before .pre .0 .within)) (c .before .before .before .before .before .before .before .before .before .before .before .before .before .before .r .given .1) in
-    let q = taken (back-read (h .stands) (in-part (dots (c .before .before .before .before .before .before .before .before .before .before .before .before .before .before .before .before .before .before .before .before .before .before .args .tokens .now) turns nil (c .before .before .before .before .before .before .before .before .before .before .before .before .before .before .r .given .0 .1 .1 .0 .at)) (h .stands) (c .before .before .before .before .before .before .before .before .before .dots .ensures)) (c .before .before .before .before .before .q .given .1)) refl in
+    let q = taken (back-read (h .stands) (in-part (dots (c .before .before .before .before .before .before .before .before .before .before .before .before .before .before .before .before .before .before .before .before .before .before .args .tokens .now) turns nil (c .before .before .before .before .before .before .before .before .before .before .before .before .before .before .r .given .0 .1 .1 .0)) (h .stands) (c .before .before .before .before .before .before .before .before .before .dots .ensures)) (c .before .before .before .before .before .q .given .1)) refl in
     by-eq (then-eq _ (need-met _ _ _ (eq-eqb _ _ (c .before .before .before .before .before .before .before .before .before .before .before .before .before .before .before .before .before .before .before .before .before .before .pre .1))) ∙ then-read _ (h .eq) ∙ choose-true _ _ (sym (c .before .before .before .before .before .before .before .before .before .before .before .before .next-symbol-is .ensures) ∙ not-false _ (c .before .before .before .before .before .before .before .before .before .before .before .if1 .left)) ∙ then-read _ (q .eq))
     (c .before .before .put-row .ensures (c .before .before .before .before .before .before .before .before .before .before .before .before .before .before .before .before .before .before .before .before .before .before .args .tokens .now) (q .stands .within) .1 _ [] _ _ _ _ (q .stands) (record { few = tt; root = of-node; refs = (h .head, q .head, refl, refl) }))
 

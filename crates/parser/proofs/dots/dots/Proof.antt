@@ -8,7 +8,6 @@ use borrow.Author.Tests.{not-true, not-false}
 use Rattle.grammar.specs.Words.{SDot, step}
 use Rattle.grammar.specs.Tree.{nil}
 use Rattle.grammar.specs.Expressions.{dots, get-identifier}
-use Rattle.words.specs.declared.places.Cursor.{Cursor}
 use Rattle.parser.specs.Meets.{many, of-node}
 use Rattle.parser.proofs.Answers.{bounds, no-list, taken, pass, by-eq, refuses, need-met, need-failed, choose-true, choose-false, then-read, then-refused, then-eq}
 use Rattle.parser.proofs.Loops.{Turning, starts, stops, lengthens}
@@ -17,15 +16,15 @@ use borrow.Author.Needs.{needs}
 use Rattle.parser.proofs.dots.dots.Statement.{statement}
 use Rattle.parser.proofs.dots.dots.Tie as tie
 
-pub record Inv (ts pool₀ : List ℕ) (first k₀ head₀ : ℕ) (d₀ : Cursor) (pool : List ℕ) (k head : ℕ) (d : Cursor) : Type 0 where
+pub record Inv (ts pool₀ : List ℕ) (first k₀ head₀ : ℕ) (d₀ : ℕ) (pool : List ℕ) (k head : ℕ) (d : ℕ) : Type 0 where
   pub same : length pool ≡ length pool₀
-  pub state : Turning many (dots ts) ts (d₀ .at) nil (d₀ .at) (length pool₀ / 8) first k head pool₀ pool (d .at)
+  pub state : Turning many (dots ts) ts d₀ nil d₀ (length pool₀ / 8) first k head pool₀ pool d
 
 abbrev Inv-loop : tie.InvT-loop
-Inv-loop tokens pool₀ first k₀ head₀ d₀ pool k head d = Inv tokens pool₀ first k₀ head₀ d₀ pool k head d
+Inv-loop tokens pool₀ first c k₀ head₀ d₀ pool k head d = Inv tokens pool₀ first k₀ head₀ d₀ pool k head d
 
 abbrev μ-loop : tie.MeasureT-loop
-μ-loop tokens pool₀ first k₀ head₀ d₀ pool k head d = length tokens - d .at
+μ-loop tokens pool₀ first c k₀ head₀ d₀ pool k head d = length tokens - d
 
 loop-holds : tie.Need-loop-holds Inv-loop μ-loop
 loop-holds c = record { same = refl; state = starts (dots _) nil (c .before .before .pre .sound .few) (no-list _ _ (c .before .before .pre .within)) refl }
@@ -80,7 +79,7 @@ loop-again c =
     let h = taken (c .before .before .before .before .before .before .before .before .before .before .put-row .ensures (c .before .before .before .before .before .before .before .before .before .before .before .before .before .before .before .before .before .before .before .before .before .args .tokens .now) (within-step _ _ (c .before .before .before .before .before .before .before .before .before .before .before .before .before .before .iterate2 .ensures) (within-step _ _ (c .before .before .before .before .before .before .before .before .before .before .before .before .before .before .before .iterate .ensures) (c .before .before .before .before .before .before .before .before .before .before .before .before .before .before .before .before .before .before .loop .inv .state .stands .within))) .1 _ ((c .before .before .before .before .before .before .before .before .before .before .before .before .before .before .before .before .before .before .loop .inv .state .value) ∷ []) [] _ _ _ (stands-step _ _ (c .before .before .before .before .before .before .before .before .before .before .before .before .before .before .iterate2 .ensures) (stands-step _ _ (c .before .before .before .before .before .before .before .before .before .before .before .before .before .before .before .iterate .ensures) (c .before .before .before .before .before .before .before .before .before .before .before .before .before .before .before .before .before .before .loop .inv .state .stands))) (record { few = tt; root = of-node; refs = (refl, refl, refl, refl) })) (c .before .before .before .before .before .before .r .given .1) in
     record {
       same = c .before .before .before .link .kept .0 ∙ c .before .before .before .before .before .before .before .before .before .before .put-row .kept .0 ∙ c .before .before .before .before .before .before .before .before .before .before .before .before .before .before .before .before .before .before .loop .inv .same;
-      state = rw (c .first-of .ensures, c .before .before .before .link .ensures) (lengthens (c .before .before .before .before .before .before .before .before .before .before .before .before .before .before .before .before .before .before .loop .inv .state) _ (h .stands) (h .head) (choose-true _ _ (sym (c .before .before .before .before .before .before .before .before .before .before .before .before .before .before .before .before .before .next-symbol-is .ensures) ∙ c .before .before .before .before .before .before .before .before .before .before .before .before .before .before .before .before .if1 .taken) ∙ then-eq _ (rw (← (c .before .before .before .before .before .before .before .before .before .before .before .before .before .before .iterate2 .ensures ∙ ap (step _) (c .before .before .before .before .before .before .before .before .before .before .before .before .before .before .before .iterate .ensures))) (need-met _ _ _ (sym (c .before .before .before .before .before .before .before .before .before .before .before .before .before .is-identifier .ensures) ∙ not-false _ (c .before .before .before .before .before .before .before .before .before .before .before .before .if2 .left)))) ∙ then-read _ (h .eq)) (omega (arith, bounds (c .before .before .before .before .before .before .before .before .before .before .put-row .ensures (c .before .before .before .before .before .before .before .before .before .before .before .before .before .before .before .before .before .before .before .before .before .args .tokens .now) (within-step _ _ (c .before .before .before .before .before .before .before .before .before .before .before .before .before .before .iterate2 .ensures) (within-step _ _ (c .before .before .before .before .before .before .before .before .before .before .before .before .before .before .before .iterate .ensures) (c .before .before .before .before .before .before .before .before .before .before .before .before .before .before .before .before .before .before .loop .inv .state .stands .within))) .0) (c .before .before .before .before .before .before .r .given .1) .on, moves-next SDot (c .before .before .before .before .before .before .before .before .before .before .before .before .before .before .before .before .before .before .before .before .before .pre .sound) (c .before .before .before .before .before .before .before .before .before .before .before .before .before .before .before .before .before .before .loop .inv .state .stands .within) (sym (c .before .before .before .before .before .before .before .before .before .before .before .before .before .before .before .before .before .next-symbol-is .ensures) ∙ c .before .before .before .before .before .before .before .before .before .before .before .before .before .before .before .before .if1 .taken) refl, c .before .before .before .before .before .before .before .before .before .before .before .before .before .before .before .iterate .ensures, on-step _ _ (c .before .before .before .before .before .before .before .before .before .before .before .before .before .before .iterate2 .ensures))) (omega arith) (h .stands .within));
+      state = rw (c .first-of .ensures, c .before .before .before .link .ensures) (lengthens (c .before .before .before .before .before .before .before .before .before .before .before .before .before .before .before .before .before .before .loop .inv .state) _ (h .stands) (h .head) (choose-true _ _ (sym (c .before .before .before .before .before .before .before .before .before .before .before .before .before .before .before .before .before .next-symbol-is .ensures) ∙ c .before .before .before .before .before .before .before .before .before .before .before .before .before .before .before .before .if1 .taken) ∙ then-eq _ (rw (← (c .before .before .before .before .before .before .before .before .before .before .before .before .before .before .iterate2 .ensures ∙ ap (step _) (c .before .before .before .before .before .before .before .before .before .before .before .before .before .before .before .iterate .ensures))) (need-met _ _ _ (sym (c .before .before .before .before .before .before .before .before .before .before .before .before .before .is-identifier .ensures) ∙ not-false _ (c .before .before .before .before .before .before .before .before .before .before .before .before .if2 .left)))) ∙ then-read _ (h .eq)) (omega (arith, bounds (c .before .before .before .before .before .before .before .before .before .before .put-row .ensures (c .before .before .before .before .before .before .before .before .before .before .before .before .before .before .before .before .before .before .before .before .before .args .tokens .now) (within-step _ _ (c .before .before .before .before .before .before .before .before .before .before .before .before .before .before .iterate2 .ensures) (within-step _ _ (c .before .before .before .before .before .before .before .before .before .before .before .before .before .before .before .iterate .ensures) (c .before .before .before .before .before .before .before .before .before .before .before .before .before .before .before .before .before .before .loop .inv .state .stands .within))) .0) (c .before .before .before .before .before .before .r .given .1) .on, moves-next SDot (c .before .before .before .before .before .before .before .before .before .before .before .before .before .before .before .before .before .before .before .before .before .pre .sound) (c .before .before .before .before .before .before .before .before .before .before .before .before .before .before .before .before .before .before .loop .inv .state .stands .within) (sym (c .before .before .before .before .before .before .before .before .before .before .before .before .before .before .before .before .before .next-symbol-is .ensures) ∙ c .before .before .before .before .before .before .before .before .before .before .before .before .before .before .before .before .if1 .taken) refl, c .before .before .before .before .before .before .before .before .before .before .before .before .before .before .before .iterate .ensures, on-step _ _ (c .before .before .before .before .before .before .before .before .before .before .before .before .before .before .iterate2 .ensures))) (omega arith) (h .stands .within))
     }
 
 same-length-3 : tie.Need-same-length-3 Inv-loop μ-loop

@@ -3,7 +3,7 @@ use mathlib.Core.Path.{ap}
 use Prim.Native.Nat.{ℕ, _+_}
 use native.Mathlib.Omega.{arith}
 use Rattle.rows.proofs.Laws.{when-built, when-refused}
-use Rattle.parser.specs.declared.part.Read.the-variants as the
+use Rattle.answer.specs.declared.Read.the-variants as the
 use Rattle.parser.proofs.Answers.{built, full, bounded-tree, bounded-refused}
 use borrow.Author.Needs.{needs}
 use Rattle.parser.proofs.part.put_row.Statement.{statement}
@@ -32,10 +32,9 @@ same-length c = search needs
 
 returns : tie.Need-returns
 returns c ts lt =
-    let b = when-built (c .before .before .before .before .before .build .ensures) (c .before .b .given .1) in (
-      bounded-tree (omega (arith, b .count, b .fit)) (omega arith) lt,
-      λ from bs slots t zs left s e. built bs s e (omega (arith, b .fit)) (b .pool) (ap (λ (k : ℕ). the.Tree k (c .before .before .before .before .before .before .before .before .args .first + k) (c .before .before .before .before .before .before .before .before .args .c)) (b .count)),
-    )
+    let b = when-built (c .before .before .before .before .before .build .ensures) (c .before .b .given .1) in
+    (bounded-tree (omega (arith, b .count, b .fit)) (omega arith) lt,
+    λ from bs slots t zs left s e. built bs s e (omega (arith, b .fit)) (b .pool) (ap (λ (k : ℕ). the.Tree k (c .before .before .before .before .before .before .before .before .args .first + k) (c .before .before .before .before .before .before .before .before .args .c)) (b .count)))
 
 same-length-2 : tie.Need-same-length-2
 same-length-2 c = search needs

@@ -1,0 +1,91 @@
+-- `hash` meets its contract: nothing between its signs, or a pair, the pairs behind it and the closing sign.
+use lib.Dec.{lit<}
+use mathlib.Core.Path.{refl, sym, _∙_}
+use mathlib.Core.List.{[]}
+use Prim.Native.Nat.{ℕ}
+use Rattle.grammar.specs.Expressions.{hash-literal}
+use Rattle.parser.specs.Contracts.{item, closed}
+use Rattle.parser.specs.Meets.{of-node}
+use Rattle.parser.proofs.Answers.{at-once, taken, pass, by-eq, then-read, choose-true, choose-false, sooner}
+use Rattle.parser.proofs.Moves.{falls, front-le, le-trans, on-step, ready-same, ready-step, small, stands-step, within-step}
+use borrow.Author.Needs.{needs}
+use Rattle.parser.proofs.part.closed.Reads as closed-reads
+use Rattle.parser.proofs.expressions.entries.Reads as entries-reads
+use Rattle.parser.proofs.expressions.hash.Reads as hash-reads
+use Rattle.words.proofs.iterate.Reads as iterate-reads
+use Rattle.words.proofs.next_symbol_is.Reads as next-symbol-is-reads
+use Rattle.parser.proofs.expressions.pair.Reads as pair-reads
+use Rattle.parser.proofs.part.put_row.Reads as put-row-reads
+use Rattle.parser.proofs.expressions.+around+array+at_keyword+at_operator+behind+call+climb+entries+expression+hash+index+infix_exp+item+lambda+list_behind+list_expr+operation+pair+prefix+prefix_part+shell+started+sub_exp.Lts-hash as lts
+use Rattle.parser.proofs.expressions.+around+array+at_keyword+at_operator+behind+call+climb+entries+expression+hash+index+infix_exp+item+lambda+list_behind+list_expr+operation+pair+prefix+prefix_part+shell+started+sub_exp.Proof.Measures.{hash-at, entries-below, pair-below}
+
+module _ (t : ℕ) where
+  abbrev cs : lts.Claims
+  cs = (iterate-reads.Asked, iterate-reads.Learnt, next-symbol-is-reads.Asked, next-symbol-is-reads.Learnt, put-row-reads.Asked, put-row-reads.Learnt, pair-below t, pair-reads.Post, entries-below t, entries-reads.Post, closed-reads.Asked, closed-reads.Learnt)
+
+  pub iterate-requires : lts.Need-iterate-requires cs (hash-at t) hash-reads.Post
+  iterate-requires c κs = search needs
+
+  pub next-symbol-is-requires : lts.Need-next-symbol-is-requires cs (hash-at t) hash-reads.Post
+  next-symbol-is-requires c κs = search needs
+
+  pub put-row-requires : lts.Need-put-row-requires cs (hash-at t) hash-reads.Post
+  put-row-requires c κs = (c .before .before .before .before .before .before .pre .1 .fits, small (c .before .before .before .before .before .before .pre .1))
+
+  pub same-length : lts.Need-same-length cs (hash-at t) hash-reads.Post
+  same-length c = c .before .before .put-row .kept .0
+
+  pub returns : lts.Need-returns cs (hash-at t) hash-reads.Post
+  unfolding hash-literal
+  returns c =
+      by-eq (choose-true _ _ (sym (c .before .before .before .before .before .next-symbol-is .ensures) ∙ c .before .before .before .before .if1 .taken)) (rw (← (c .before .before .before .before .before .before .iterate .ensures))
+      (c .before .before .put-row .ensures (c .before .before .before .before .before .before .before .before .before .args .tokens .now) (within-step _ _ (c .before .before .before .before .before .before .iterate .ensures) (c .before .before .before .before .before .before .before .before .before .pre .1 .within)) .1 _ [] _ _ _ _ (stands-step _ _ (c .before .before .before .before .before .before .iterate .ensures) (at-once _ _ (c .before .before .before .before .before .before .before .before .before .pre .1 .within)))
+      (record { few = tt; root = of-node; refs = (refl, refl, refl, refl) })))
+
+  pub pair-requires : lts.Need-pair-requires cs (hash-at t) hash-reads.Post
+  pair-requires c κs = (falls _ _ _ _ _ _ _ (c .before .before .before .before .before .before .pre .0) (on-step _ _ (c .before .before .before .iterate .ensures)) (lit< tt), ready-step _ _ (c .before .before .before .iterate .ensures) (c .before .before .before .before .before .before .pre .1))
+
+  pub enum-known-r : lts.Need-enum-known-r cs (hash-at t) hash-reads.Post
+  enum-known-r c = search needs
+
+  pub enum-told : lts.Need-enum-told cs (hash-at t) hash-reads.Post
+  enum-told c = search needs
+
+  pub same-length-2 : lts.Need-same-length-2 cs (hash-at t) hash-reads.Post
+  same-length-2 c = c .before .before .before .before .pair .kept .1 .0
+
+  pub returns-2 : lts.Need-returns-2 cs (hash-at t) hash-reads.Post
+  unfolding hash-literal
+  returns-2 c = by-eq (choose-false _ _ (sym (c .before .before .before .before .before .before .before .next-symbol-is .ensures) ∙ c .before .before .before .before .before .before .if1 .left)) (rw (← (c .before .before .before .before .before .before .before .before .iterate .ensures)) (pass _ (c .before .before .before .before .pair .ensures) (c .enum-told .given .1)))
+
+  pub entries-requires : lts.Need-entries-requires cs (hash-at t) hash-reads.Post
+  entries-requires c κs =
+      let h = taken (c .before .before .before .before .before .before .pair .ensures) (c .before .before .r .given .1) in
+      (falls _ _ _ _ _ _ _ (c .before .before .before .before .before .before .before .before .before .before .before .before .before .pre .0) (le-trans (on-step _ _ (c .before .before .before .before .before .before .before .before .before .before .iterate .ensures)) (h .stands .on)) (lit< tt), (ready-same (c .before .before .before .before .before .before .before .before .before .before .before .before .before .pre .1) (c .before .before .before .before .before .before .pair .kept .1 .0) (h .stands .within), front-le (h .stands .front)))
+
+  pub enum-known-q : lts.Need-enum-known-q cs (hash-at t) hash-reads.Post
+  enum-known-q c = search needs
+
+  pub enum-told-2 : lts.Need-enum-told-2 cs (hash-at t) hash-reads.Post
+  enum-told-2 c = search needs
+
+  pub same-length-3 : lts.Need-same-length-3 cs (hash-at t) hash-reads.Post
+  same-length-3 c = c .before .before .before .before .entries .kept .1 .0 ∙ c .before .before .before .before .before .before .before .before .before .before .before .pair .kept .1 .0
+
+  pub returns-3 : lts.Need-returns-3 cs (hash-at t) hash-reads.Post
+  unfolding hash-literal item
+  returns-3 c = let h = taken (c .before .before .before .before .before .before .before .before .before .before .before .pair .ensures) (c .before .before .before .before .before .before .before .r .given .1) in by-eq (choose-false _ _ (sym (c .before .before .before .before .before .before .before .before .before .before .before .before .before .before .next-symbol-is .ensures) ∙ c .before .before .before .before .before .before .before .before .before .before .before .before .before .if1 .left)) (rw (← (c .before .before .before .before .before .before .before .before .before .before .before .before .before .before .before .iterate .ensures)) (by-eq (then-read _ (h .eq)) (pass _ (c .before .before .before .before .entries .ensures .1 _ _ _ _ (h .stands) (h .head)) (c .enum-told2 .given .1))))
+
+  pub closed-requires : lts.Need-closed-requires cs (hash-at t) hash-reads.Post
+  closed-requires c κs = let h = taken (c .before .before .before .before .before .before .before .before .before .before .before .before .before .pair .ensures) (c .before .before .before .before .before .before .before .before .before .r .given .1) in let q = taken (c .before .before .before .before .before .before .entries .ensures .1 _ _ _ _ (h .stands) (h .head)) (c .before .before .q .given .1) in (ready-same (c .before .before .before .before .before .before .before .before .before .before .before .before .before .before .before .before .before .before .before .before .pre .1) (c .before .before .before .before .before .before .entries .kept .1 .0 ∙ c .before .before .before .before .before .before .before .before .before .before .before .before .before .pair .kept .1 .0) (q .stands .within), small (c .before .before .before .before .before .before .before .before .before .before .before .before .before .before .before .before .before .before .before .before .pre .1))
+
+  pub same-length-4 : lts.Need-same-length-4 cs (hash-at t) hash-reads.Post
+  same-length-4 c = c .before .before .closed .kept .1 .0 ∙ c .before .before .before .before .before .before .before .before .before .entries .kept .1 .0 ∙ c .before .before .before .before .before .before .before .before .before .before .before .before .before .before .before .before .pair .kept .1 .0
+
+  pub returns-4 : lts.Need-returns-4 cs (hash-at t) hash-reads.Post
+  unfolding hash-literal item closed
+  returns-4 c =
+      let h = taken (c .before .before .before .before .before .before .before .before .before .before .before .before .before .before .before .before .pair .ensures) (c .before .before .before .before .before .before .before .before .before .before .before .before .r .given .1) in
+      let q = taken (c .before .before .before .before .before .before .before .before .before .entries .ensures .1 _ _ _ _ (h .stands) (h .head)) (c .before .before .before .before .before .q .given .1) in
+      sooner (on-step _ _ (c .before .before .before .before .before .before .before .before .before .before .before .before .before .before .before .before .before .before .before .before .iterate .ensures)) (by-eq (choose-false _ _ (sym (c .before .before .before .before .before .before .before .before .before .before .before .before .before .before .before .before .before .before .before .next-symbol-is .ensures) ∙ c .before .before .before .before .before .before .before .before .before .before .before .before .before .before .before .before .before .before .if1 .left)) (rw (← (c .before .before .before .before .before .before .before .before .before .before .before .before .before .before .before .before .before .before .before .before .iterate .ensures)) (by-eq (then-read _ (h .eq) ∙ then-read _ (q .eq))
+      (c .before .before .closed .ensures .1 _ [] _ _ _ _ (q .stands) (record { few = tt; root = of-node; refs = (q .head, refl, refl, refl) })))))

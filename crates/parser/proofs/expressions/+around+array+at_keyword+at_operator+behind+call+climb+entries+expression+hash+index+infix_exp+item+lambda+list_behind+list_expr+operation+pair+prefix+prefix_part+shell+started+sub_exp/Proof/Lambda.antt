@@ -1,0 +1,104 @@
+-- `lambda` meets its contract: parameters, an arrow, and the body behind it.
+use lib.Dec.{lit<}
+use mathlib.Core.Path.{refl, sym, ap, _∙_}
+use mathlib.Core.Bool.{not}
+use mathlib.Core.List.{[]}
+use Prim.Native.Nat.{ℕ}
+use borrow.Author.Tests.{not-true, not-false}
+use Rattle.grammar.specs.Expressions.{lambda}
+use Rattle.parser.specs.Contracts.{item}
+use Rattle.parser.specs.Meets.{of-node}
+use Rattle.parser.proofs.Answers.{taken, pass, by-eq, refuses, then-read, need-met, need-failed}
+use Rattle.parser.proofs.Moves.{falls, fits-same, front-le, le-refl, le-trans, on-step, ready-same, ready-step, small, stands-step}
+use borrow.Author.Needs.{needs}
+use Rattle.parser.proofs.expressions.behind.Reads as behind-reads
+use Rattle.words.proofs.iterate.Reads as iterate-reads
+use Rattle.parser.proofs.expressions.lambda.Reads as lambda-reads
+use Rattle.parser.proofs.expressions.list_expr.Reads as list-expr-reads
+use Rattle.words.proofs.next_symbol_is.Reads as next-symbol-is-reads
+use Rattle.parser.proofs.part.put_row.Reads as put-row-reads
+use Rattle.parser.proofs.expressions.+around+array+at_keyword+at_operator+behind+call+climb+entries+expression+hash+index+infix_exp+item+lambda+list_behind+list_expr+operation+pair+prefix+prefix_part+shell+started+sub_exp.Lts-lambda as lts
+use Rattle.parser.proofs.expressions.+around+array+at_keyword+at_operator+behind+call+climb+entries+expression+hash+index+infix_exp+item+lambda+list_behind+list_expr+operation+pair+prefix+prefix_part+shell+started+sub_exp.Proof.Measures.{lambda-at, behind-below, list-expr-below}
+
+module _ (t : ℕ) where
+  abbrev cs : lts.Claims
+  cs = (next-symbol-is-reads.Asked, next-symbol-is-reads.Learnt, list-expr-below t, list-expr-reads.Post, iterate-reads.Asked, iterate-reads.Learnt, behind-below t, behind-reads.Post, put-row-reads.Asked, put-row-reads.Learnt)
+
+  pub next-symbol-is-requires : lts.Need-next-symbol-is-requires cs (lambda-at t) lambda-reads.Post
+  next-symbol-is-requires c κs = search needs
+
+  pub returns : lts.Need-returns cs (lambda-at t) lambda-reads.Post
+  unfolding lambda
+  returns c = refuses _ _ _ (need-failed _ _ _ (ap not (sym (c .before .next-symbol-is .ensures) ∙ c .if1 .taken)))
+
+  pub next-symbol-is-requires-2 : lts.Need-next-symbol-is-requires-2 cs (lambda-at t) lambda-reads.Post
+  next-symbol-is-requires-2 c κs = search needs
+
+  pub returns-2 : lts.Need-returns-2 cs (lambda-at t) lambda-reads.Post
+  unfolding lambda
+  returns-2 c = refuses _ _ _ (need-met _ _ _ (ap not (sym (c .before .before .before .next-symbol-is .ensures) ∙ c .before .before .if1 .left)) ∙ need-failed _ _ _ (ap not (sym (c .before .next-symbol-is2 .ensures) ∙ c .if2 .taken)))
+
+  pub list-expr-requires : lts.Need-list-expr-requires cs (lambda-at t) lambda-reads.Post
+  list-expr-requires c κs = (falls _ _ _ _ _ _ _ (c .before .before .before .before .before .before .before .pre .0) (le-refl _) (lit< tt), c .before .before .before .before .before .before .before .pre .1)
+
+  pub enum-known-r : lts.Need-enum-known-r cs (lambda-at t) lambda-reads.Post
+  enum-known-r c = search needs
+
+  pub enum-told : lts.Need-enum-told cs (lambda-at t) lambda-reads.Post
+  enum-told c = search needs
+
+  pub same-length : lts.Need-same-length cs (lambda-at t) lambda-reads.Post
+  same-length c = c .before .before .before .before .list-expr .kept .1 .0
+
+  pub returns-3 : lts.Need-returns-3 cs (lambda-at t) lambda-reads.Post
+  unfolding lambda
+  returns-3 c = by-eq (need-met _ _ _ (ap not (sym (c .before .before .before .before .before .before .before .before .before .next-symbol-is .ensures) ∙ c .before .before .before .before .before .before .before .before .if1 .left)) ∙ need-met _ _ _ (ap not (sym (c .before .before .before .before .before .before .before .next-symbol-is2 .ensures) ∙ c .before .before .before .before .before .before .if2 .left))) (pass _ (c .before .before .before .before .list-expr .ensures) (c .enum-told .given .1))
+
+  pub next-symbol-is-requires-3 : lts.Need-next-symbol-is-requires-3 cs (lambda-at t) lambda-reads.Post
+  next-symbol-is-requires-3 c κs = search needs
+
+  pub same-length-2 : lts.Need-same-length-2 cs (lambda-at t) lambda-reads.Post
+  same-length-2 c = c .before .before .before .before .before .before .before .list-expr .kept .1 .0
+
+  pub returns-4 : lts.Need-returns-4 cs (lambda-at t) lambda-reads.Post
+  unfolding lambda
+  returns-4 c = let h = taken (c .before .before .before .before .before .before .before .list-expr .ensures) (c .before .before .before .r .given .1) in refuses _ _ _ (need-met _ _ _ (ap not (sym (c .before .before .before .before .before .before .before .before .before .before .before .before .next-symbol-is .ensures) ∙ c .before .before .before .before .before .before .before .before .before .before .before .if1 .left)) ∙ need-met _ _ _ (ap not (sym (c .before .before .before .before .before .before .before .before .before .before .next-symbol-is2 .ensures) ∙ c .before .before .before .before .before .before .before .before .before .if2 .left)) ∙ then-read _ (h .eq) ∙ need-failed _ _ _ (sym (c .before .next-symbol-is3 .ensures) ∙ not-true _ (c .if3 .taken)))
+
+  pub iterate-requires : lts.Need-iterate-requires cs (lambda-at t) lambda-reads.Post
+  iterate-requires c κs = search needs
+
+  pub iterate-requires-2 : lts.Need-iterate-requires-2 cs (lambda-at t) lambda-reads.Post
+  iterate-requires-2 c κs = search needs
+
+  pub behind-requires : lts.Need-behind-requires cs (lambda-at t) lambda-reads.Post
+  behind-requires c κs =
+      let h = taken (c .before .before .before .before .before .before .before .before .before .before .list-expr .ensures) (c .before .before .before .before .before .before .r .given .1) in
+      (falls _ _ _ _ _ _ _ (c .before .before .before .before .before .before .before .before .before .before .before .before .before .before .before .before .before .before .pre .0) (le-trans (h .stands .on) (le-trans (on-step _ _ (c .before .before .iterate .ensures)) (on-step _ _ (c .before .iterate2 .ensures)))) (lit< tt),
+      (ready-step _ _ (c .before .iterate2 .ensures) (ready-step _ _ (c .before .before .iterate .ensures) (ready-same (c .before .before .before .before .before .before .before .before .before .before .before .before .before .before .before .before .before .before .pre .1) (c .before .before .before .before .before .before .before .before .before .before .list-expr .kept .1 .0) (h .stands .within))), front-le (h .stands .front)))
+
+  pub enum-known-q : lts.Need-enum-known-q cs (lambda-at t) lambda-reads.Post
+  enum-known-q c = search needs
+
+  pub enum-told-2 : lts.Need-enum-told-2 cs (lambda-at t) lambda-reads.Post
+  enum-told-2 c = search needs
+
+  pub same-length-3 : lts.Need-same-length-3 cs (lambda-at t) lambda-reads.Post
+  same-length-3 c = c .before .before .before .before .behind .kept .1 .0 ∙ c .before .before .before .before .before .before .before .before .before .before .before .before .before .before .before .list-expr .kept .1 .0
+
+  pub returns-5 : lts.Need-returns-5 cs (lambda-at t) lambda-reads.Post
+  unfolding lambda item
+  returns-5 c = let h = taken (c .before .before .before .before .before .before .before .before .before .before .before .before .before .before .before .list-expr .ensures) (c .before .before .before .before .before .before .before .before .before .before .before .r .given .1) in by-eq (need-met _ _ _ (ap not (sym (c .before .before .before .before .before .before .before .before .before .before .before .before .before .before .before .before .before .before .before .before .next-symbol-is .ensures) ∙ c .before .before .before .before .before .before .before .before .before .before .before .before .before .before .before .before .before .before .before .if1 .left)) ∙ need-met _ _ _ (ap not (sym (c .before .before .before .before .before .before .before .before .before .before .before .before .before .before .before .before .before .before .next-symbol-is2 .ensures) ∙ c .before .before .before .before .before .before .before .before .before .before .before .before .before .before .before .before .before .if2 .left)) ∙ then-read _ (h .eq) ∙ need-met _ _ _ (sym (c .before .before .before .before .before .before .before .before .before .next-symbol-is3 .ensures) ∙ not-false _ (c .before .before .before .before .before .before .before .before .if3 .left))) (rw (← (c .before .before .before .before .before .before .before .iterate .ensures), ← (c .before .before .before .before .before .before .iterate2 .ensures)) (pass _ (c .before .before .before .before .behind .ensures .1 _ _ _ _ (stands-step _ _ (c .before .before .before .before .before .before .iterate2 .ensures) (stands-step _ _ (c .before .before .before .before .before .before .before .iterate .ensures) (h .stands)))) (c .enum-told2 .given .1)))
+
+  pub put-row-requires : lts.Need-put-row-requires cs (lambda-at t) lambda-reads.Post
+  put-row-requires c κs = (fits-same _ _ _ (c .before .before .before .before .before .before .before .before .before .before .before .before .before .before .before .before .before .before .before .before .before .before .before .before .before .pre .1 .fits) (c .before .before .before .before .before .before .behind .kept .1 .0 ∙ c .before .before .before .before .before .before .before .before .before .before .before .before .before .before .before .before .before .list-expr .kept .1 .0), small (c .before .before .before .before .before .before .before .before .before .before .before .before .before .before .before .before .before .before .before .before .before .before .before .before .before .pre .1))
+
+  pub same-length-4 : lts.Need-same-length-4 cs (lambda-at t) lambda-reads.Post
+  same-length-4 c = c .before .before .put-row .kept .0 ∙ c .before .before .before .before .before .before .before .before .before .behind .kept .1 .0 ∙ c .before .before .before .before .before .before .before .before .before .before .before .before .before .before .before .before .before .before .before .before .list-expr .kept .1 .0
+
+  pub returns-6 : lts.Need-returns-6 cs (lambda-at t) lambda-reads.Post
+  unfolding lambda item
+  returns-6 c =
+      let h = taken (c .before .before .before .before .before .before .before .before .before .before .before .before .before .before .before .before .before .before .before .before .list-expr .ensures) (c .before .before .before .before .before .before .before .before .before .before .before .before .before .before .before .before .r .given .1) in
+      let q = taken (c .before .before .before .before .before .before .before .before .before .behind .ensures .1 _ _ _ _ (stands-step _ _ (c .before .before .before .before .before .before .before .before .before .before .before .iterate2 .ensures) (stands-step _ _ (c .before .before .before .before .before .before .before .before .before .before .before .before .iterate .ensures) (h .stands)))) (c .before .before .before .before .before .q .given .1) in
+      by-eq (need-met _ _ _ (ap not (sym (c .before .before .before .before .before .before .before .before .before .before .before .before .before .before .before .before .before .before .before .before .before .before .before .before .before .next-symbol-is .ensures) ∙ c .before .before .before .before .before .before .before .before .before .before .before .before .before .before .before .before .before .before .before .before .before .before .before .before .if1 .left)) ∙ need-met _ _ _ (ap not (sym (c .before .before .before .before .before .before .before .before .before .before .before .before .before .before .before .before .before .before .before .before .before .before .before .next-symbol-is2 .ensures) ∙ c .before .before .before .before .before .before .before .before .before .before .before .before .before .before .before .before .before .before .before .before .before .before .if2 .left)) ∙ then-read _ (h .eq) ∙ need-met _ _ _ (sym (c .before .before .before .before .before .before .before .before .before .before .before .before .before .before .next-symbol-is3 .ensures) ∙ not-false _ (c .before .before .before .before .before .before .before .before .before .before .before .before .before .if3 .left))) (rw (← (c .before .before .before .before .before .before .before .before .before .before .before .before .iterate .ensures), ← (c .before .before .before .before .before .before .before .before .before .before .before .iterate2 .ensures)) (by-eq (then-read _ (q .eq))
+      (c .before .before .put-row .ensures (c .before .before .before .before .before .before .before .before .before .before .before .before .before .before .before .before .before .before .before .before .before .before .before .before .before .before .before .before .args .tokens .now) (q .stands .within) .1 _ [] _ _ _ _ (q .stands) (record { few = tt; root = of-node; refs = (h .head, q .head, refl, refl) }))))

@@ -1,0 +1,115 @@
+-- `operation` meets its contract: a suffix, a call or an index by its operator, and an infix operator else.
+use mathlib.Core.Path.{_≡_, refl}
+use mathlib.Core.Bool.{Bool, true}
+use mathlib.Core.List.{List, [], _∷_}
+use Prim.Native.Nat.{ℕ}
+use native.Mathlib.Omega.{arith}
+use Rattle.grammar.specs.Words.{SIncr, SDecr, SLParen, SLBox, tok, codes}
+use Rattle.grammar.specs.Parsed.{match, choose}
+use Rattle.grammar.specs.Expressions.{Rec, operation, infix-expression, suffix-expression}
+use Rattle.words.proofs.Arms.{token-arm, operator-arm}
+use Rattle.words.proofs.Tests.{but}
+use Rattle.answer.specs.declared.Read.{Read}
+use Rattle.parser.specs.Meets.{of-node}
+use Rattle.parser.specs.Contracts.{Follows}
+use Rattle.parser.proofs.Answers.{by-eq}
+use Rattle.parser.proofs.Matches.{word-of, none, unmatched}
+use borrow.Author.Needs.{needs}
+use Rattle.parser.proofs.expressions.call.Reads as call-reads
+use Rattle.words.proofs.current.Reads as current-reads
+use Rattle.parser.proofs.expressions.index.Reads as index-reads
+use Rattle.parser.proofs.expressions.infix_exp.Reads as infix-exp-reads
+use Rattle.parser.proofs.expressions.operation.Reads as operation-reads
+use Rattle.parser.proofs.part.put_row.Reads as put-row-reads
+use Rattle.parser.proofs.expressions.+around+array+at_keyword+at_operator+behind+call+climb+entries+expression+hash+index+infix_exp+item+lambda+list_behind+list_expr+operation+pair+prefix+prefix_part+shell+started+sub_exp.Lts-operation as lts
+use Rattle.parser.proofs.expressions.+around+array+at_keyword+at_operator+behind+call+climb+entries+expression+hash+index+infix_exp+item+lambda+list_behind+list_expr+operation+pair+prefix+prefix_part+shell+started+sub_exp.Proof.Measures.{operation-at, call-below, index-below, infix-exp-below}
+
+-- Whether a word is no suffix, call or index.
+abbrev others : ℕ → Bool
+others = none (SIncr ∷ SDecr ∷ SLParen ∷ SLBox ∷ [])
+
+by-infix : {ts : List ℕ} {at first rows head w : ℕ} {r : Read} {xs ys : List ℕ} (rec : Rec) → tok ts at ≡ w → others w ≡ true
+    → Follows (infix-expression ts rec) ts at first rows head r xs ys → Follows (operation ts rec) ts at first rows head r xs ys
+unfolding operation
+by-infix rec e h f = (f .0, λ from t zs left s g. by-eq (unmatched _ _ _ _ _ (rw e h)) (f .1 from t zs left s g))
+
+module _ (t : ℕ) where
+  abbrev cs : lts.Claims
+  cs = (current-reads.Asked, current-reads.Learnt, infix-exp-below t, infix-exp-reads.Post, put-row-reads.Asked, put-row-reads.Learnt, call-below t, call-reads.Post, index-below t, index-reads.Post)
+
+  pub current-requires : lts.Need-current-requires cs (operation-at t) operation-reads.Post
+  current-requires c κs = search needs
+
+  pub enum-known-t : lts.Need-enum-known-t cs (operation-at t) operation-reads.Post
+  enum-known-t c = search needs
+
+  pub infix-exp-requires : lts.Need-infix-exp-requires cs (operation-at t) operation-reads.Post
+  infix-exp-requires c κs = (omega (arith, c .before .before .before .before .before .pre .0), c .before .before .before .before .before .pre .1)
+
+  pub same-length : lts.Need-same-length cs (operation-at t) operation-reads.Post
+  same-length c = search needs
+
+  pub returns : lts.Need-returns cs (operation-at t) operation-reads.Post
+  unfolding codes
+  returns c = by-infix _ (word-of (c .before .before .before .before .before .before .before .before .pre .1 .0) (c .before .before .before .before .before .current .ensures)) (token-arm others (but (8 ∷ []) 11) (c .before .before .before .before .before .current .result) (c .before .before .before .before .match .keys2) refl) (c .before .before .infix-exp .ensures)
+
+  pub enum-told : lts.Need-enum-told cs (operation-at t) operation-reads.Post
+  enum-told c = search needs
+
+  pub put-row-requires : lts.Need-put-row-requires cs (operation-at t) operation-reads.Post
+  put-row-requires c κs = search needs
+
+  pub enum-told-2 : lts.Need-enum-told-2 cs (operation-at t) operation-reads.Post
+  enum-told-2 c = search needs
+
+  pub put-row-requires-2 : lts.Need-put-row-requires-2 cs (operation-at t) operation-reads.Post
+  put-row-requires-2 c κs = search needs
+
+  pub enum-told-3 : lts.Need-enum-told-3 cs (operation-at t) operation-reads.Post
+  enum-told-3 c = search needs
+
+  pub call-requires : lts.Need-call-requires cs (operation-at t) operation-reads.Post
+  call-requires c κs = (omega (arith, c .before .before .before .before .before .before .before .before .before .pre .0), c .before .before .before .before .before .before .before .before .before .pre .1)
+
+  pub enum-told-4 : lts.Need-enum-told-4 cs (operation-at t) operation-reads.Post
+  enum-told-4 c = search needs
+
+  pub index-requires : lts.Need-index-requires cs (operation-at t) operation-reads.Post
+  index-requires c κs = (omega (arith, c .before .before .before .before .before .before .before .before .before .pre .0), c .before .before .before .before .before .before .before .before .before .pre .1)
+
+  pub infix-exp-requires-2 : lts.Need-infix-exp-requires-2 cs (operation-at t) operation-reads.Post
+  infix-exp-requires-2 c κs = (omega (arith, c .before .before .before .before .before .before .before .before .pre .0), c .before .before .before .before .before .before .before .before .pre .1)
+
+  pub same-length-2 : lts.Need-same-length-2 cs (operation-at t) operation-reads.Post
+  same-length-2 c = search needs
+
+  pub returns-2 : lts.Need-returns-2 cs (operation-at t) operation-reads.Post
+  unfolding operation match choose suffix-expression
+  returns-2 c = let p = c .before .before .put-row .ensures _ (c .before .before .before .before .before .before .before .before .before .before .before .before .pre .1 .0 .within) in (p .0, λ from t zs left s e. rw (word-of (c .before .before .before .before .before .before .before .before .before .before .before .before .pre .1 .0) (c .before .before .before .before .before .before .before .before .before .current .ensures), c .before .before .before .before .before .before .before .t .given .1, c .before .before .before .before .enum-told .given .1) (p .1 _ [] _ _ _ _ s (record { few = tt; root = of-node; refs = (e, refl, refl, refl) })))
+
+  pub same-length-3 : lts.Need-same-length-3 cs (operation-at t) operation-reads.Post
+  same-length-3 c = search needs
+
+  pub returns-3 : lts.Need-returns-3 cs (operation-at t) operation-reads.Post
+  unfolding operation match choose suffix-expression
+  returns-3 c = let p = c .before .before .put-row2 .ensures _ (c .before .before .before .before .before .before .before .before .before .before .before .before .pre .1 .0 .within) in (p .0, λ from t zs left s e. rw (word-of (c .before .before .before .before .before .before .before .before .before .before .before .before .pre .1 .0) (c .before .before .before .before .before .before .before .before .before .current .ensures), c .before .before .before .before .before .before .before .t .given .1, c .before .before .before .before .enum-told2 .given .1) (p .1 _ [] _ _ _ _ s (record { few = tt; root = of-node; refs = (e, refl, refl, refl) })))
+
+  pub same-length-4 : lts.Need-same-length-4 cs (operation-at t) operation-reads.Post
+  same-length-4 c = search needs
+
+  pub returns-4 : lts.Need-returns-4 cs (operation-at t) operation-reads.Post
+  unfolding operation match choose
+  returns-4 c = (c .before .before .call .ensures .0, λ from t zs left s e. rw (word-of (c .before .before .before .before .before .before .before .before .before .before .before .before .pre .1 .0) (c .before .before .before .before .before .before .before .before .before .current .ensures), c .before .before .before .before .before .before .before .t .given .1, c .before .before .before .before .enum-told3 .given .1) (c .before .before .call .ensures .1 _ _ _ _ s e))
+
+  pub same-length-5 : lts.Need-same-length-5 cs (operation-at t) operation-reads.Post
+  same-length-5 c = search needs
+
+  pub returns-5 : lts.Need-returns-5 cs (operation-at t) operation-reads.Post
+  unfolding operation match choose
+  returns-5 c = (c .before .before .index .ensures .0, λ from t zs left s e. rw (word-of (c .before .before .before .before .before .before .before .before .before .before .before .before .pre .1 .0) (c .before .before .before .before .before .before .before .before .before .current .ensures), c .before .before .before .before .before .before .before .t .given .1, c .before .before .before .before .enum-told4 .given .1) (c .before .before .index .ensures .1 _ _ _ _ s e))
+
+  pub same-length-6 : lts.Need-same-length-6 cs (operation-at t) operation-reads.Post
+  same-length-6 c = search needs
+
+  pub returns-6 : lts.Need-returns-6 cs (operation-at t) operation-reads.Post
+  returns-6 c = by-infix _ (word-of (c .before .before .before .before .before .before .before .before .before .before .before .pre .1 .0) (c .before .before .before .before .before .before .before .before .current .ensures)) (operator-arm others (but (5 ∷ 29 ∷ 30 ∷ 34 ∷ []) 41) (c .before .before .before .before .before .before .t .given .1) (c .before .before .before .before .match2 .keys5) refl) (c .before .before .infix-exp2 .ensures)

@@ -1,0 +1,93 @@
+-- `pair` meets its contract: the key, a colon, and the value behind it.
+use lib.Dec.{lit<}
+use mathlib.Core.Path.{refl, sym, _∙_}
+use mathlib.Core.List.{[]}
+use Prim.Native.Nat.{ℕ}
+use native.Mathlib.Omega.{arith}
+use borrow.Author.Tests.{not-true, not-false}
+use Rattle.grammar.specs.Words.{SColon}
+use Rattle.grammar.specs.Expressions.{pair}
+use Rattle.parser.specs.Contracts.{item}
+use Rattle.parser.specs.Meets.{of-node}
+use Rattle.parser.proofs.Answers.{taken, pass, by-eq, refuses, then-read, need-met, need-failed}
+use Rattle.parser.proofs.Moves.{falls, fits-same, front-le, le-refl, moves-next, on-step, ready-same, ready-step, stands-step, within-step}
+use borrow.Author.Needs.{needs}
+use Rattle.parser.proofs.expressions.behind.Reads as behind-reads
+use Rattle.parser.proofs.expressions.expression.Reads as expression-reads
+use Rattle.words.proofs.iterate.Reads as iterate-reads
+use Rattle.words.proofs.next_symbol_is.Reads as next-symbol-is-reads
+use Rattle.parser.proofs.expressions.pair.Reads as pair-reads
+use Rattle.parser.proofs.part.put_row.Reads as put-row-reads
+use Rattle.parser.proofs.expressions.+around+array+at_keyword+at_operator+behind+call+climb+entries+expression+hash+index+infix_exp+item+lambda+list_behind+list_expr+operation+pair+prefix+prefix_part+shell+started+sub_exp.Lts-pair as lts
+use Rattle.parser.proofs.expressions.+around+array+at_keyword+at_operator+behind+call+climb+entries+expression+hash+index+infix_exp+item+lambda+list_behind+list_expr+operation+pair+prefix+prefix_part+shell+started+sub_exp.Proof.Measures.{pair-at, behind-below, expression-below}
+
+module _ (t : ℕ) where
+  abbrev cs : lts.Claims
+  cs = (expression-below t, expression-reads.Post, iterate-reads.Asked, iterate-reads.Learnt, next-symbol-is-reads.Asked, next-symbol-is-reads.Learnt, behind-below t, behind-reads.Post, put-row-reads.Asked, put-row-reads.Learnt)
+
+  pub expression-requires : lts.Need-expression-requires cs (pair-at t) pair-reads.Post
+  expression-requires c κs = (falls _ _ _ _ _ _ _ (c .before .before .before .pre .0) (le-refl _) (lit< tt), c .before .before .before .pre .1)
+
+  pub enum-known-r : lts.Need-enum-known-r cs (pair-at t) pair-reads.Post
+  enum-known-r c = search needs
+
+  pub enum-told : lts.Need-enum-told cs (pair-at t) pair-reads.Post
+  enum-told c = search needs
+
+  pub same-length : lts.Need-same-length cs (pair-at t) pair-reads.Post
+  same-length c = c .before .before .before .before .expression .kept .1 .0
+
+  pub returns : lts.Need-returns cs (pair-at t) pair-reads.Post
+  unfolding pair
+  returns c = pass _ (c .before .before .before .before .expression .ensures) (c .enum-told .given .1)
+
+  pub iterate-requires : lts.Need-iterate-requires cs (pair-at t) pair-reads.Post
+  iterate-requires c κs = search needs
+
+  pub next-symbol-is-requires : lts.Need-next-symbol-is-requires cs (pair-at t) pair-reads.Post
+  next-symbol-is-requires c κs = search needs
+
+  pub same-length-2 : lts.Need-same-length-2 cs (pair-at t) pair-reads.Post
+  same-length-2 c = c .before .before .before .before .before .before .before .before .expression .kept .1 .0
+
+  pub returns-2 : lts.Need-returns-2 cs (pair-at t) pair-reads.Post
+  unfolding pair
+  returns-2 c = let h = taken (c .before .before .before .before .before .before .before .before .expression .ensures) (c .before .before .before .before .r .given .1) in refuses _ _ _ (then-read _ (h .eq) ∙ need-failed _ _ _ (sym (c .before .next-symbol-is .ensures) ∙ not-true _ (c .if1 .taken)))
+
+  pub iterate-requires-2 : lts.Need-iterate-requires-2 cs (pair-at t) pair-reads.Post
+  iterate-requires-2 c κs = search needs
+
+  pub behind-requires : lts.Need-behind-requires cs (pair-at t) pair-reads.Post
+  behind-requires c κs =
+      let h = taken (c .before .before .before .before .before .before .before .before .before .before .expression .ensures) (c .before .before .before .before .before .before .r .given .1) in
+      (omega (arith, c .before .before .before .before .before .before .before .before .before .before .before .before .before .before .pre .0, h .stands .on, h .stands .within, moves-next SColon (c .before .before .before .before .before .before .before .before .before .before .before .before .before .before .pre .1 .sound) (h .stands .within) (sym (c .before .before .before .next-symbol-is .ensures) ∙ not-false _ (c .before .before .if1 .left)) refl, c .before .before .before .before .iterate .ensures, on-step _ _ (c .iterate2 .ensures)),
+      (ready-step _ _ (c .iterate2 .ensures) (ready-step _ _ (c .before .before .before .before .iterate .ensures) (ready-same (c .before .before .before .before .before .before .before .before .before .before .before .before .before .before .pre .1) (c .before .before .before .before .before .before .before .before .before .before .expression .kept .1 .0) (h .stands .within))), front-le (h .stands .front)))
+
+  pub enum-known-q : lts.Need-enum-known-q cs (pair-at t) pair-reads.Post
+  enum-known-q c = search needs
+
+  pub enum-told-2 : lts.Need-enum-told-2 cs (pair-at t) pair-reads.Post
+  enum-told-2 c = search needs
+
+  pub same-length-3 : lts.Need-same-length-3 cs (pair-at t) pair-reads.Post
+  same-length-3 c = c .before .before .before .before .behind .kept .1 .0 ∙ c .before .before .before .before .before .before .before .before .before .before .before .before .before .before .before .expression .kept .1 .0
+
+  pub returns-3 : lts.Need-returns-3 cs (pair-at t) pair-reads.Post
+  unfolding pair item
+  returns-3 c = let h = taken (c .before .before .before .before .before .before .before .before .before .before .before .before .before .before .before .expression .ensures) (c .before .before .before .before .before .before .before .before .before .before .before .r .given .1) in by-eq (then-read _ (h .eq) ∙ need-met _ _ _ (sym (c .before .before .before .before .before .before .before .before .next-symbol-is .ensures) ∙ not-false _ (c .before .before .before .before .before .before .before .if1 .left))) (rw (← (c .before .before .before .before .before .before .before .before .before .iterate .ensures), ← (c .before .before .before .before .before .iterate2 .ensures)) (pass _ (c .before .before .before .before .behind .ensures .1 _ _ _ _ (stands-step _ _ (c .before .before .before .before .before .iterate2 .ensures) (stands-step _ _ (c .before .before .before .before .before .before .before .before .before .iterate .ensures) (h .stands)))) (c .enum-told2 .given .1)))
+
+  pub put-row-requires : lts.Need-put-row-requires cs (pair-at t) pair-reads.Post
+  put-row-requires c κs =
+      let h = taken (c .before .before .before .before .before .before .before .before .before .before .before .before .before .before .before .before .before .expression .ensures) (c .before .before .before .before .before .before .before .before .before .before .before .before .before .r .given .1) in
+      (fits-same _ _ _ (c .before .before .before .before .before .before .before .before .before .before .before .before .before .before .before .before .before .before .before .before .before .pre .1 .fits) (c .before .before .before .before .before .before .behind .kept .1 .0 ∙ c .before .before .before .before .before .before .before .before .before .before .before .before .before .before .before .before .before .expression .kept .1 .0), omega (arith, within-step _ _ (c .before .before .before .before .before .before .before .before .before .before .before .iterate .ensures) (h .stands .within), c .before .before .before .before .before .before .before .before .before .before .before .before .before .before .before .before .before .before .before .before .before .pre .1 .sound .few))
+
+  pub same-length-4 : lts.Need-same-length-4 cs (pair-at t) pair-reads.Post
+  same-length-4 c = c .before .before .put-row .kept .0 ∙ c .before .before .before .before .before .before .before .before .before .behind .kept .1 .0 ∙ c .before .before .before .before .before .before .before .before .before .before .before .before .before .before .before .before .before .before .before .before .expression .kept .1 .0
+
+  pub returns-4 : lts.Need-returns-4 cs (pair-at t) pair-reads.Post
+  unfolding pair item
+  returns-4 c =
+      let h = taken (c .before .before .before .before .before .before .before .before .before .before .before .before .before .before .before .before .before .before .before .before .expression .ensures) (c .before .before .before .before .before .before .before .before .before .before .before .before .before .before .before .before .r .given .1) in
+      let q = taken (c .before .before .before .before .before .before .before .before .before .behind .ensures .1 _ _ _ _ (stands-step _ _ (c .before .before .before .before .before .before .before .before .before .before .iterate2 .ensures) (stands-step _ _ (c .before .before .before .before .before .before .before .before .before .before .before .before .before .before .iterate .ensures) (h .stands)))) (c .before .before .before .before .before .q .given .1) in
+      by-eq (then-read _ (h .eq) ∙ need-met _ _ _ (sym (c .before .before .before .before .before .before .before .before .before .before .before .before .before .next-symbol-is .ensures) ∙ not-false _ (c .before .before .before .before .before .before .before .before .before .before .before .before .if1 .left))) (rw (← (c .before .before .before .before .before .before .before .before .before .before .before .before .before .before .iterate .ensures), ← (c .before .before .before .before .before .before .before .before .before .before .iterate2 .ensures)) (by-eq (then-read _ (q .eq))
+      (c .before .before .put-row .ensures (c .before .before .before .before .before .before .before .before .before .before .before .before .before .before .before .before .before .before .before .before .before .before .before .before .args .tokens .now) (q .stands .within) .1 _ [] _ _ _ _ (q .stands) (record { few = tt; root = of-node; refs = (h .head, q .head, refl, refl) }))))

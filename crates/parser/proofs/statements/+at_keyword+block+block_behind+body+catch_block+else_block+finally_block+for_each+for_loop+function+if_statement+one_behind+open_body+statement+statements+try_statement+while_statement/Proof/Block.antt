@@ -1,0 +1,98 @@
+-- `block` meets its contract: nothing between its signs, or a statement and those behind it up to the closing brace.
+use lib.Dec.{lit<}
+use mathlib.Core.Path.{refl, sym, _∙_}
+use mathlib.Core.List.{[]}
+use Prim.Native.Nat.{ℕ}
+use native.Mathlib.Omega.{arith}
+use Rattle.grammar.specs.Statements.{block, opened}
+use Rattle.parser.specs.Meets.{of-node}
+use Rattle.parser.proofs.Answers.{at-once, taken, pass, by-eq, then-read, choose-true, choose-false, sooner}
+use Rattle.parser.proofs.Moves.{falls, fits-same, front-le, le-trans, on-step, ready-same, ready-step, stands-step, within-step}
+use borrow.Author.Needs.{needs}
+use Rattle.parser.proofs.statements.block.Reads as block-reads
+use Rattle.words.proofs.iterate.Reads as iterate-reads
+use Rattle.words.proofs.next_symbol_is.Reads as next-symbol-is-reads
+use Rattle.parser.proofs.part.put_row.Reads as put-row-reads
+use Rattle.parser.proofs.statements.statement.Reads as statement-reads
+use Rattle.parser.proofs.statements.statements.Reads as statements-reads
+use Rattle.parser.proofs.statements.+at_keyword+block+block_behind+body+catch_block+else_block+finally_block+for_each+for_loop+function+if_statement+one_behind+open_body+statement+statements+try_statement+while_statement.Lts-block as lts
+use Rattle.parser.proofs.statements.+at_keyword+block+block_behind+body+catch_block+else_block+finally_block+for_each+for_loop+function+if_statement+one_behind+open_body+statement+statements+try_statement+while_statement.Proof.Measures.{block-at, statement-below, statements-below}
+
+module _ (t : ℕ) where
+  abbrev cs : lts.Claims
+  cs = (iterate-reads.Asked, iterate-reads.Learnt, next-symbol-is-reads.Asked, next-symbol-is-reads.Learnt, put-row-reads.Asked, put-row-reads.Learnt, statement-below t, statement-reads.Post, statements-below t, statements-reads.Post)
+
+  pub iterate-requires : lts.Need-iterate-requires cs (block-at t) block-reads.Post
+  iterate-requires c κs = search needs
+
+  pub iterate-requires-2 : lts.Need-iterate-requires-2 cs (block-at t) block-reads.Post
+  iterate-requires-2 c κs = search needs
+
+  pub next-symbol-is-requires : lts.Need-next-symbol-is-requires cs (block-at t) block-reads.Post
+  next-symbol-is-requires c κs = search needs
+
+  pub put-row-requires : lts.Need-put-row-requires cs (block-at t) block-reads.Post
+  put-row-requires c κs = (c .before .before .before .before .before .before .before .pre .1 .fits, omega (arith, within-step _ _ (c .before .before .before .before .iterate .ensures) (c .before .before .before .before .before .before .before .pre .1 .within), c .before .before .before .before .before .before .before .pre .1 .sound .few))
+
+  pub same-length : lts.Need-same-length cs (block-at t) block-reads.Post
+  same-length c = c .before .before .put-row .kept .0
+
+  pub returns : lts.Need-returns cs (block-at t) block-reads.Post
+  unfolding block opened
+  returns c =
+      rw (← (c .before .before .before .before .before .before .before .iterate .ensures)) (by-eq (choose-true _ _ (sym (c .before .before .before .before .before .next-symbol-is .ensures) ∙ c .before .before .before .before .if1 .taken)) (rw (← (c .before .before .before .before .before .before .iterate2 .ensures))
+      (c .before .before .put-row .ensures (c .before .before .before .before .before .before .before .before .before .before .args .tokens .now) (within-step _ _ (c .before .before .before .before .before .before .iterate2 .ensures) (within-step _ _ (c .before .before .before .before .before .before .before .iterate .ensures) (c .before .before .before .before .before .before .before .before .before .before .pre .1 .within))) .1 _ [] _ _ _ _ (stands-step _ _ (c .before .before .before .before .before .before .iterate2 .ensures) (stands-step _ _ (c .before .before .before .before .before .before .before .iterate .ensures) (at-once _ _ (c .before .before .before .before .before .before .before .before .before .before .pre .1 .within))))
+      (record { few = tt; root = of-node; refs = (refl, refl, refl, refl) }))))
+
+  pub statement-requires : lts.Need-statement-requires cs (block-at t) block-reads.Post
+  statement-requires c κs = (falls _ _ _ _ _ _ _ (c .before .before .before .before .before .before .before .pre .0) (le-trans (on-step _ _ (c .before .before .before .before .iterate .ensures)) (on-step _ _ (c .before .before .before .iterate2 .ensures))) (lit< tt), ready-step _ _ (c .before .before .before .iterate2 .ensures) (ready-step _ _ (c .before .before .before .before .iterate .ensures) (c .before .before .before .before .before .before .before .pre .1)))
+
+  pub enum-known-r : lts.Need-enum-known-r cs (block-at t) block-reads.Post
+  enum-known-r c = search needs
+
+  pub enum-told : lts.Need-enum-told cs (block-at t) block-reads.Post
+  enum-told c = search needs
+
+  pub same-length-2 : lts.Need-same-length-2 cs (block-at t) block-reads.Post
+  same-length-2 c = c .before .before .before .before .statement .kept .1 .0
+
+  pub returns-2 : lts.Need-returns-2 cs (block-at t) block-reads.Post
+  unfolding block opened
+  returns-2 c = rw (← (c .before .before .before .before .before .before .before .before .before .iterate .ensures)) (by-eq (choose-false _ _ (sym (c .before .before .before .before .before .before .before .next-symbol-is .ensures) ∙ c .before .before .before .before .before .before .if1 .left)) (rw (← (c .before .before .before .before .before .before .before .before .iterate2 .ensures)) (pass _ (c .before .before .before .before .statement .ensures) (c .enum-told .given .1))))
+
+  pub iterate-requires-3 : lts.Need-iterate-requires-3 cs (block-at t) block-reads.Post
+  iterate-requires-3 c κs = search needs
+
+  pub statements-requires : lts.Need-statements-requires cs (block-at t) block-reads.Post
+  statements-requires c κs =
+      let h = taken (c .before .before .before .before .before .before .before .statement .ensures) (c .before .before .before .r .given .1) in
+      (falls _ _ _ _ _ _ _ (c .before .before .before .before .before .before .before .before .before .before .before .before .before .before .before .pre .0) (le-trans (on-step _ _ (c .before .before .before .before .before .before .before .before .before .before .before .before .iterate .ensures)) (le-trans (on-step _ _ (c .before .before .before .before .before .before .before .before .before .before .before .iterate2 .ensures)) (le-trans (h .stands .on) (on-step _ _ (c .before .iterate3 .ensures))))) (lit< tt),
+      (ready-step _ _ (c .before .iterate3 .ensures) (ready-same (c .before .before .before .before .before .before .before .before .before .before .before .before .before .before .before .pre .1) (c .before .before .before .before .before .before .before .statement .kept .1 .0) (h .stands .within)), front-le (h .stands .front)))
+
+  pub enum-known-q : lts.Need-enum-known-q cs (block-at t) block-reads.Post
+  enum-known-q c = search needs
+
+  pub enum-told-2 : lts.Need-enum-told-2 cs (block-at t) block-reads.Post
+  enum-told-2 c = search needs
+
+  pub same-length-3 : lts.Need-same-length-3 cs (block-at t) block-reads.Post
+  same-length-3 c = c .before .before .before .before .statements .kept .1 .0 ∙ c .before .before .before .before .before .before .before .before .before .before .before .before .statement .kept .1 .0
+
+  pub returns-3 : lts.Need-returns-3 cs (block-at t) block-reads.Post
+  unfolding block opened
+  returns-3 c = let h = taken (c .before .before .before .before .before .before .before .before .before .before .before .before .statement .ensures) (c .before .before .before .before .before .before .before .before .r .given .1) in rw (← (c .before .before .before .before .before .before .before .before .before .before .before .before .before .before .before .before .before .iterate .ensures)) (by-eq (choose-false _ _ (sym (c .before .before .before .before .before .before .before .before .before .before .before .before .before .before .before .next-symbol-is .ensures) ∙ c .before .before .before .before .before .before .before .before .before .before .before .before .before .before .if1 .left)) (rw (← (c .before .before .before .before .before .before .before .before .before .before .before .before .before .before .before .before .iterate2 .ensures)) (by-eq (then-read _ (h .eq)) (rw (← (c .before .before .before .before .before .before .iterate3 .ensures)) (pass _ (c .before .before .before .before .statements .ensures .1 _ _ _ _ (stands-step _ _ (c .before .before .before .before .before .before .iterate3 .ensures) (h .stands)) (h .head)) (c .enum-told2 .given .1))))))
+
+  pub put-row-requires-2 : lts.Need-put-row-requires-2 cs (block-at t) block-reads.Post
+  put-row-requires-2 c κs = (fits-same _ _ _ (c .before .before .before .before .before .before .before .before .before .before .before .before .before .before .before .before .before .before .before .before .before .before .pre .1 .fits) (c .before .before .before .before .before .before .statements .kept .1 .0 ∙ c .before .before .before .before .before .before .before .before .before .before .before .before .before .before .statement .kept .1 .0), omega (arith, within-step _ _ (c .before .before .before .before .before .before .before .before .before .before .before .before .before .before .before .before .before .before .before .iterate .ensures) (c .before .before .before .before .before .before .before .before .before .before .before .before .before .before .before .before .before .before .before .before .before .before .pre .1 .within), c .before .before .before .before .before .before .before .before .before .before .before .before .before .before .before .before .before .before .before .before .before .before .pre .1 .sound .few))
+
+  pub same-length-4 : lts.Need-same-length-4 cs (block-at t) block-reads.Post
+  same-length-4 c = c .before .before .put-row2 .kept .0 ∙ c .before .before .before .before .before .before .before .before .before .statements .kept .1 .0 ∙ c .before .before .before .before .before .before .before .before .before .before .before .before .before .before .before .before .before .statement .kept .1 .0
+
+  pub returns-4 : lts.Need-returns-4 cs (block-at t) block-reads.Post
+  unfolding block opened
+  returns-4 c =
+      let h = taken (c .before .before .before .before .before .before .before .before .before .before .before .before .before .before .before .before .before .statement .ensures) (c .before .before .before .before .before .before .before .before .before .before .before .before .before .r .given .1) in
+      let q = taken (c .before .before .before .before .before .before .before .before .before .statements .ensures .1 _ _ _ _ (stands-step _ _ (c .before .before .before .before .before .before .before .before .before .before .before .iterate3 .ensures) (h .stands)) (h .head)) (c .before .before .before .before .before .q .given .1) in
+      sooner (le-trans (on-step _ _ (c .before .before .before .before .before .before .before .before .before .before .before .before .before .before .before .before .before .before .before .before .before .before .iterate .ensures)) (on-step _ _ (c .before .before .before .before .before .before .before .before .before .before .before .before .before .before .before .before .before .before .before .before .before .iterate2 .ensures)))
+      (rw (← (c .before .before .before .before .before .before .before .before .before .before .before .before .before .before .before .before .before .before .before .before .before .before .iterate .ensures)) (by-eq (choose-false _ _ (sym (c .before .before .before .before .before .before .before .before .before .before .before .before .before .before .before .before .before .before .before .before .next-symbol-is .ensures) ∙ c .before .before .before .before .before .before .before .before .before .before .before .before .before .before .before .before .before .before .before .if1 .left)) (rw (← (c .before .before .before .before .before .before .before .before .before .before .before .before .before .before .before .before .before .before .before .before .before .iterate2 .ensures)) (by-eq (then-read _ (h .eq)) (rw (← (c .before .before .before .before .before .before .before .before .before .before .before .iterate3 .ensures)) (by-eq (then-read _ (q .eq))
+      (c .before .before .put-row2 .ensures (c .before .before .before .before .before .before .before .before .before .before .before .before .before .before .before .before .before .before .before .before .before .before .before .before .before .args .tokens .now) (q .stands .within) .1 _ [] _ _ _ _ (q .stands) (record { few = tt; root = of-node; refs = (q .head, refl, refl, refl) }))))))))

@@ -1,0 +1,93 @@
+-- `for_loop` meets its contract: a target, what it runs over, and the body behind them.
+use lib.Dec.{lit<}
+use mathlib.Core.Path.{refl, sym, _∙_}
+use mathlib.Core.List.{[]}
+use Prim.Native.Nat.{ℕ}
+use Rattle.grammar.specs.Expressions.{expression}
+use Rattle.grammar.specs.Statements.{statement, block, for}
+use Rattle.parser.specs.Meets.{of-node}
+use Rattle.parser.proofs.Answers.{taken, pass, by-eq, then-read, sooner}
+use Rattle.parser.proofs.Bodies.{sign-then, body-then}
+use Rattle.parser.proofs.Moves.{falls, fits-same, front-le, le-trans, on-step, ready-same, ready-step, small}
+use borrow.Author.Needs.{needs}
+use Rattle.parser.proofs.simple.behind_sign.Reads as behind-sign-reads
+use Rattle.parser.proofs.statements.body.Reads as body-reads
+use Rattle.parser.proofs.expressions.expression.Reads as expression-reads
+use Rattle.parser.proofs.statements.for_loop.Reads as for-loop-reads
+use Rattle.words.proofs.iterate.Reads as iterate-reads
+use Rattle.parser.proofs.part.put_row.Reads as put-row-reads
+use Rattle.parser.proofs.statements.+at_keyword+block+block_behind+body+catch_block+else_block+finally_block+for_each+for_loop+function+if_statement+one_behind+open_body+statement+statements+try_statement+while_statement.Lts-for_loop as lts
+use Rattle.parser.proofs.statements.+at_keyword+block+block_behind+body+catch_block+else_block+finally_block+for_each+for_loop+function+if_statement+one_behind+open_body+statement+statements+try_statement+while_statement.Proof.Measures.{for-loop-at, body-below}
+
+module _ (t : ℕ) where
+  abbrev cs : lts.Claims
+  cs = (iterate-reads.Asked, iterate-reads.Learnt, expression-reads.Asked, expression-reads.Learnt, behind-sign-reads.Asked, behind-sign-reads.Learnt, body-below t, body-reads.Post, put-row-reads.Asked, put-row-reads.Learnt)
+
+  pub iterate-requires : lts.Need-iterate-requires cs (for-loop-at t) for-loop-reads.Post
+  iterate-requires c κs = search needs
+
+  pub expression-requires : lts.Need-expression-requires cs (for-loop-at t) for-loop-reads.Post
+  expression-requires c κs = ready-step _ _ (c .iterate .ensures) (c .before .before .before .before .pre .1)
+
+  pub enum-known-r0 : lts.Need-enum-known-r0 cs (for-loop-at t) for-loop-reads.Post
+  enum-known-r0 c = search needs
+
+  pub enum-told : lts.Need-enum-told cs (for-loop-at t) for-loop-reads.Post
+  enum-told c = search needs
+
+  pub same-length : lts.Need-same-length cs (for-loop-at t) for-loop-reads.Post
+  same-length c = c .before .before .before .before .expression .kept .1 .0
+
+  pub returns : lts.Need-returns cs (for-loop-at t) for-loop-reads.Post
+  unfolding for
+  returns c = rw (← (c .before .before .before .before .before .iterate .ensures)) (pass _ (c .before .before .before .before .expression .ensures) (c .enum-told .given .1))
+
+  pub behind-sign-requires : lts.Need-behind-sign-requires cs (for-loop-at t) for-loop-reads.Post
+  behind-sign-requires c κs = let h = taken (c .before .before .before .before .before .before .expression .ensures) (c .before .before .r0 .given .1) in (ready-same (c .before .before .before .before .before .before .before .before .before .before .before .pre .1) (c .before .before .before .before .before .before .expression .kept .1 .0) (h .stands .within), front-le (h .stands .front))
+
+  pub enum-known-r1 : lts.Need-enum-known-r1 cs (for-loop-at t) for-loop-reads.Post
+  enum-known-r1 c = search needs
+
+  pub enum-told-2 : lts.Need-enum-told-2 cs (for-loop-at t) for-loop-reads.Post
+  enum-told-2 c = search needs
+
+  pub same-length-2 : lts.Need-same-length-2 cs (for-loop-at t) for-loop-reads.Post
+  same-length-2 c = c .before .before .before .before .behind-sign .kept .1 .0 ∙ c .before .before .before .before .before .before .before .before .before .before .before .expression .kept .1 .0
+
+  pub returns-2 : lts.Need-returns-2 cs (for-loop-at t) for-loop-reads.Post
+  unfolding for
+  returns-2 c = let h = taken (c .before .before .before .before .before .before .before .before .before .before .before .expression .ensures) (c .before .before .before .before .before .before .before .r0 .given .1) in rw (← (c .before .before .before .before .before .before .before .before .before .before .before .before .iterate .ensures)) (by-eq (then-read _ (h .eq) ∙ sym (sign-then (c .before .before .before .before .before .before .before .before .before .before .before .before .before .before .before .before .args .tokens .now) _ _ _ (expression (c .before .before .before .before .before .before .before .before .before .before .before .before .before .before .before .before .args .tokens .now) (c .before .before .before .before .before .before .before .before .before .before .before .before .before .before .before .before .args .less)) _ _)) (pass _ (c .before .before .before .before .behind-sign .ensures .1 _ _ _ _ (h .stands)) (c .enum-told2 .given .1)))
+
+  pub body-requires : lts.Need-body-requires cs (for-loop-at t) for-loop-reads.Post
+  body-requires c κs =
+      let h = taken (c .before .before .before .before .before .before .before .before .before .before .before .before .before .expression .ensures) (c .before .before .before .before .before .before .before .before .before .r0 .given .1) in
+      let q = taken (c .before .before .before .before .before .before .behind-sign .ensures .1 _ _ _ _ (h .stands)) (c .before .before .r1 .given .1) in
+      (falls _ _ _ _ _ _ _ (c .before .before .before .before .before .before .before .before .before .before .before .before .before .before .before .before .before .before .pre .0) (le-trans (on-step _ _ (c .before .before .before .before .before .before .before .before .before .before .before .before .before .before .iterate .ensures)) (q .stands .on)) (lit< tt), (ready-same (c .before .before .before .before .before .before .before .before .before .before .before .before .before .before .before .before .before .before .pre .1) (c .before .before .before .before .before .before .behind-sign .kept .1 .0 ∙ c .before .before .before .before .before .before .before .before .before .before .before .before .before .expression .kept .1 .0) (q .stands .within), front-le (q .stands .front)))
+
+  pub enum-known-r2 : lts.Need-enum-known-r2 cs (for-loop-at t) for-loop-reads.Post
+  enum-known-r2 c = search needs
+
+  pub enum-told-3 : lts.Need-enum-told-3 cs (for-loop-at t) for-loop-reads.Post
+  enum-told-3 c = search needs
+
+  pub same-length-3 : lts.Need-same-length-3 cs (for-loop-at t) for-loop-reads.Post
+  same-length-3 c = c .before .before .before .before .body .kept .1 .0 ∙ c .before .before .before .before .before .before .before .before .before .before .before .behind-sign .kept .1 .0 ∙ c .before .before .before .before .before .before .before .before .before .before .before .before .before .before .before .before .before .before .expression .kept .1 .0
+
+  pub returns-3 : lts.Need-returns-3 cs (for-loop-at t) for-loop-reads.Post
+  unfolding for
+  returns-3 c = let h = taken (c .before .before .before .before .before .before .before .before .before .before .before .before .before .before .before .before .before .before .expression .ensures) (c .before .before .before .before .before .before .before .before .before .before .before .before .before .before .r0 .given .1) in let q = taken (c .before .before .before .before .before .before .before .before .before .before .before .behind-sign .ensures .1 _ _ _ _ (h .stands)) (c .before .before .before .before .before .before .before .r1 .given .1) in rw (← (c .before .before .before .before .before .before .before .before .before .before .before .before .before .before .before .before .before .before .before .iterate .ensures)) (by-eq (then-read _ (h .eq) ∙ sym (sign-then (c .before .before .before .before .before .before .before .before .before .before .before .before .before .before .before .before .before .before .before .before .before .before .before .args .tokens .now) _ _ _ (expression (c .before .before .before .before .before .before .before .before .before .before .before .before .before .before .before .before .before .before .before .before .before .before .before .args .tokens .now) (c .before .before .before .before .before .before .before .before .before .before .before .before .before .before .before .before .before .before .before .before .before .before .before .args .less)) _ _) ∙ then-read _ (q .eq) ∙ sym (body-then (c .before .before .before .before .before .before .before .before .before .before .before .before .before .before .before .before .before .before .before .before .before .before .before .args .tokens .now) _ _ _ (block (c .before .before .before .before .before .before .before .before .before .before .before .before .before .before .before .before .before .before .before .before .before .before .before .args .tokens .now) (expression (c .before .before .before .before .before .before .before .before .before .before .before .before .before .before .before .before .before .before .before .before .before .before .before .args .tokens .now) (c .before .before .before .before .before .before .before .before .before .before .before .before .before .before .before .before .before .before .before .before .before .before .before .args .less)) (statement (c .before .before .before .before .before .before .before .before .before .before .before .before .before .before .before .before .before .before .before .before .before .before .before .args .tokens .now) (c .before .before .before .before .before .before .before .before .before .before .before .before .before .before .before .before .before .before .before .before .before .before .before .args .less))) _ _ _)) (pass _ (c .before .before .before .before .body .ensures .1 _ _ _ _ (q .stands)) (c .enum-told3 .given .1)))
+
+  pub put-row-requires : lts.Need-put-row-requires cs (for-loop-at t) for-loop-reads.Post
+  put-row-requires c κs = (fits-same _ _ _ (c .before .before .before .before .before .before .before .before .before .before .before .before .before .before .before .before .before .before .before .before .before .before .before .before .before .pre .1 .fits) (c .before .before .before .before .before .before .body .kept .1 .0 ∙ c .before .before .before .before .before .before .before .before .before .before .before .before .before .behind-sign .kept .1 .0 ∙ c .before .before .before .before .before .before .before .before .before .before .before .before .before .before .before .before .before .before .before .before .expression .kept .1 .0), small (c .before .before .before .before .before .before .before .before .before .before .before .before .before .before .before .before .before .before .before .before .before .before .before .before .before .pre .1))
+
+  pub same-length-4 : lts.Need-same-length-4 cs (for-loop-at t) for-loop-reads.Post
+  same-length-4 c = c .before .before .put-row .kept .0 ∙ c .before .before .before .before .before .before .before .before .before .body .kept .1 .0 ∙ c .before .before .before .before .before .before .before .before .before .before .before .before .before .before .before .before .behind-sign .kept .1 .0 ∙ c .before .before .before .before .before .before .before .before .before .before .before .before .before .before .before .before .before .before .before .before .before .before .before .expression .kept .1 .0
+
+  pub returns-4 : lts.Need-returns-4 cs (for-loop-at t) for-loop-reads.Post
+  unfolding for
+  returns-4 c =
+      let h = taken (c .before .before .before .before .before .before .before .before .before .before .before .before .before .before .before .before .before .before .before .before .before .before .before .expression .ensures) (c .before .before .before .before .before .before .before .before .before .before .before .before .before .before .before .before .before .before .before .r0 .given .1) in
+      let q = taken (c .before .before .before .before .before .before .before .before .before .before .before .before .before .before .before .before .behind-sign .ensures .1 _ _ _ _ (h .stands)) (c .before .before .before .before .before .before .before .before .before .before .before .before .r1 .given .1) in
+      let w = taken (c .before .before .before .before .before .before .before .before .before .body .ensures .1 _ _ _ _ (q .stands)) (c .before .before .before .before .before .r2 .given .1) in
+      sooner (on-step _ _ (c .before .before .before .before .before .before .before .before .before .before .before .before .before .before .before .before .before .before .before .before .before .before .before .before .iterate .ensures)) (rw (← (c .before .before .before .before .before .before .before .before .before .before .before .before .before .before .before .before .before .before .before .before .before .before .before .before .iterate .ensures)) (by-eq (then-read _ (h .eq) ∙ sym (sign-then (c .before .before .before .before .before .before .before .before .before .before .before .before .before .before .before .before .before .before .before .before .before .before .before .before .before .before .before .before .args .tokens .now) _ _ _ (expression (c .before .before .before .before .before .before .before .before .before .before .before .before .before .before .before .before .before .before .before .before .before .before .before .before .before .before .before .before .args .tokens .now) (c .before .before .before .before .before .before .before .before .before .before .before .before .before .before .before .before .before .before .before .before .before .before .before .before .before .before .before .before .args .less)) _ _) ∙ then-read _ (q .eq) ∙ sym (body-then (c .before .before .before .before .before .before .before .before .before .before .before .before .before .before .before .before .before .before .before .before .before .before .before .before .before .before .before .before .args .tokens .now) _ _ _ (block (c .before .before .before .before .before .before .before .before .before .before .before .before .before .before .before .before .before .before .before .before .before .before .before .before .before .before .before .before .args .tokens .now) (expression (c .before .before .before .before .before .before .before .before .before .before .before .before .before .before .before .before .before .before .before .before .before .before .before .before .before .before .before .before .args .tokens .now) (c .before .before .before .before .before .before .before .before .before .before .before .before .before .before .before .before .before .before .before .before .before .before .before .before .before .before .before .before .args .less)) (statement (c .before .before .before .before .before .before .before .before .before .before .before .before .before .before .before .before .before .before .before .before .before .before .before .before .before .before .before .before .args .tokens .now) (c .before .before .before .before .before .before .before .before .before .before .before .before .before .before .before .before .before .before .before .before .before .before .before .before .before .before .before .before .args .less))) _ _ _) ∙ then-read _ (w .eq))
+      (c .before .before .put-row .ensures (c .before .before .before .before .before .before .before .before .before .before .before .before .before .before .before .before .before .before .before .before .before .before .before .before .before .before .before .before .args .tokens .now) (w .stands .within) .1 _ [] _ _ _ _ (w .stands) (record { few = tt; root = of-node; refs = (h .head, q .head, w .head, refl) }))))

@@ -1,0 +1,64 @@
+-- `one_behind` meets its contract: a statement in the part that is lent from the first free row on.
+use lib.Dec.{lit<}
+use Prim.Native.Nat.{ℕ}
+use native.Mathlib.Omega.{arith}
+use Rattle.grammar.specs.Statements.{statement}
+use Rattle.parser.proofs.Answers.{taken, bounded-tree, bounded-told}
+use Rattle.parser.proofs.Ends.{not-at-end, begun-told}
+use Rattle.parser.proofs.Parts.{ready-lent, in-part, back-read, back-refused, back-same, part-length}
+use Rattle.parser.proofs.Moves.{falls, le-refl}
+use borrow.Author.Needs.{needs}
+use Rattle.parser.proofs.statements.one_behind.Reads as one-behind-reads
+use Rattle.parser.proofs.statements.statement.Reads as statement-reads
+use Rattle.parser.proofs.statements.+at_keyword+block+block_behind+body+catch_block+else_block+finally_block+for_each+for_loop+function+if_statement+one_behind+open_body+statement+statements+try_statement+while_statement.Lts-one_behind as lts
+use Rattle.parser.proofs.statements.+at_keyword+block+block_behind+body+catch_block+else_block+finally_block+for_each+for_loop+function+if_statement+one_behind+open_body+statement+statements+try_statement+while_statement.Proof.Measures.{one-behind-at, statement-below}
+
+module _ (t : ℕ) where
+  abbrev cs : lts.Claims
+  cs = (statement-below t, statement-reads.Post)
+
+  pub mul-i : lts.Need-mul-i cs (one-behind-at t) one-behind-reads.Post
+  mul-i c = omega (arith, c .before .before .pre .1 .1, c .before .before .pre .1 .0 .fits)
+
+  pub mul-statement : lts.Need-mul-statement cs (one-behind-at t) one-behind-reads.Post
+  mul-statement c = omega (arith, c .before .before .pre .1 .1, c .before .before .pre .1 .0 .fits)
+
+  pub sub-statement : lts.Need-sub-statement cs (one-behind-at t) one-behind-reads.Post
+  sub-statement c = c .before .before .pre .1 .1
+
+  pub part-statement-start : lts.Need-part-statement-start cs (one-behind-at t) one-behind-reads.Post
+  part-statement-start c = c .before .before .pre .1 .1
+
+  pub part-statement-end : lts.Need-part-statement-end cs (one-behind-at t) one-behind-reads.Post
+  part-statement-end c = omega arith
+
+  pub add-statement : lts.Need-add-statement cs (one-behind-at t) one-behind-reads.Post
+  add-statement c = omega (arith, c .before .before .before .pre .1 .1, c .before .before .before .pre .1 .0 .fits)
+
+  pub statement-requires : lts.Need-statement-requires cs (one-behind-at t) one-behind-reads.Post
+  statement-requires c κs = (falls _ _ _ _ _ _ _ (c .before .before .before .pre .0) (le-refl _) (lit< tt), ready-lent (c .before .before .before .args .rows) (c .before .before .before .pre .1 .0) (c .before .before .before .pre .1 .1))
+
+  pub enum-known-r : lts.Need-enum-known-r cs (one-behind-at t) one-behind-reads.Post
+  enum-known-r c = search needs
+
+  pub enum-told : lts.Need-enum-told cs (one-behind-at t) one-behind-reads.Post
+  enum-told c = search needs
+
+  pub same-length : lts.Need-same-length cs (one-behind-at t) one-behind-reads.Post
+  same-length c = back-same (c .before .before .before .before .before .before .before .before .args .rows) (c .before .before .before .before .before .before .before .before .args .pool .now) (c .before .before .before .before .statement .last .1 .0) (c .before .before .before .before .statement .kept .1 .0)
+
+  pub returns : lts.Need-returns cs (one-behind-at t) one-behind-reads.Post
+  returns c = (begun-told (c .enum-told .given .1), (bounded-told (c .enum-told .given .1), λ from slots zs left s. back-refused (in-part (statement (c .before .before .before .before .before .before .before .before .args .tokens .now) (c .before .before .before .before .before .before .before .before .args .allow) (c .before .before .before .before .before .before .before .before .args .c)) s (c .before .before .before .before .statement .ensures)) (c .enum-told .given .1)))
+
+  pub add-t12 : lts.Need-add-t12 cs (one-behind-at t) one-behind-reads.Post
+  add-t12 c = let h = taken (c .before .before .before .before .before .statement .ensures) (c .before .r .given .1) in omega (arith, h .stands .front .fit, part-length (c .before .before .before .before .before .before .before .before .before .args .rows) (c .before .before .before .before .before .before .before .before .before .args .pool .now), c .before .before .before .before .before .before .before .before .before .pre .1 .1, c .before .before .before .before .before .before .before .before .before .pre .1 .0 .fits)
+
+  pub same-length-2 : lts.Need-same-length-2 cs (one-behind-at t) one-behind-reads.Post
+  same-length-2 c = back-same (c .before .before .before .before .before .before .before .before .before .args .rows) (c .before .before .before .before .before .before .before .before .before .args .pool .now) (c .before .before .before .before .before .statement .last .1 .0) (c .before .before .before .before .before .statement .kept .1 .0)
+
+  pub returns-2 : lts.Need-returns-2 cs (one-behind-at t) one-behind-reads.Post
+  returns-2 c =
+      let h = taken (c .before .before .before .before .before .statement .ensures) (c .before .r .given .1) in
+      (record { begun = not-at-end _ _ _ _ (h .eq) },
+      (bounded-tree (omega (arith, h .stands .front .fit, part-length (c .before .before .before .before .before .before .before .before .before .args .rows) (c .before .before .before .before .before .before .before .before .before .args .pool .now), c .before .before .before .before .before .before .before .before .before .pre .1 .1)) (h .stands .on) (h .stands .within),
+      λ from slots zs left s. back-read s (in-part (statement (c .before .before .before .before .before .before .before .before .before .args .tokens .now) (c .before .before .before .before .before .before .before .before .before .args .allow) (c .before .before .before .before .before .before .before .before .before .args .c)) s (c .before .before .before .before .before .statement .ensures)) (c .before .r .given .1)))

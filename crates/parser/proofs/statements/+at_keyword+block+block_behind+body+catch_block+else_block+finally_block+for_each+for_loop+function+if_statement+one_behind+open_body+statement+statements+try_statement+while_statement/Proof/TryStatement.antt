@@ -1,0 +1,108 @@
+-- `try_statement` meets its contract: a block, what is caught, the block for it, and the block of a finally or none.
+use lib.Dec.{lit<}
+use mathlib.Core.Path.{sym, _∙_}
+use mathlib.Core.List.{[]}
+use Prim.Native.Nat.{ℕ}
+use native.Mathlib.Omega.{arith}
+use Rattle.grammar.specs.Expressions.{expression}
+use Rattle.grammar.specs.Statements.{statement, block, try}
+use Rattle.parser.specs.Meets.{of-node}
+use Rattle.parser.proofs.Answers.{at-once, taken, pass, by-eq, then-read}
+use Rattle.parser.proofs.Bodies.{sign-then, braced-then}
+use Rattle.parser.proofs.Moves.{falls, fits-same, front-le, le-refl, ready-same, small}
+use borrow.Author.Needs.{needs}
+use Rattle.parser.proofs.simple.behind_sign.Reads as behind-sign-reads
+use Rattle.parser.proofs.statements.catch_block.Reads as catch-block-reads
+use Rattle.parser.proofs.statements.finally_block.Reads as finally-block-reads
+use Rattle.parser.proofs.part.put_row.Reads as put-row-reads
+use Rattle.parser.proofs.statements.try_statement.Reads as try-statement-reads
+use Rattle.parser.proofs.statements.+at_keyword+block+block_behind+body+catch_block+else_block+finally_block+for_each+for_loop+function+if_statement+one_behind+open_body+statement+statements+try_statement+while_statement.Lts-try_statement as lts
+use Rattle.parser.proofs.statements.+at_keyword+block+block_behind+body+catch_block+else_block+finally_block+for_each+for_loop+function+if_statement+one_behind+open_body+statement+statements+try_statement+while_statement.Proof.Measures.{try-statement-at, catch-block-below, finally-block-below}
+
+module _ (t : ℕ) where
+  abbrev cs : lts.Claims
+  cs = (catch-block-below t, catch-block-reads.Post, behind-sign-reads.Asked, behind-sign-reads.Learnt, finally-block-below t, finally-block-reads.Post, put-row-reads.Asked, put-row-reads.Learnt)
+
+  pub catch-block-requires : lts.Need-catch-block-requires cs (try-statement-at t) try-statement-reads.Post
+  catch-block-requires c κs = (falls _ _ _ _ _ _ _ (c .before .before .before .pre .0) (le-refl _) (lit< tt), (c .before .before .before .pre .1, omega arith))
+
+  pub enum-known-r0 : lts.Need-enum-known-r0 cs (try-statement-at t) try-statement-reads.Post
+  enum-known-r0 c = search needs
+
+  pub enum-told : lts.Need-enum-told cs (try-statement-at t) try-statement-reads.Post
+  enum-told c = search needs
+
+  pub same-length : lts.Need-same-length cs (try-statement-at t) try-statement-reads.Post
+  same-length c = c .before .before .before .before .catch-block .kept .1 .0
+
+  pub returns : lts.Need-returns cs (try-statement-at t) try-statement-reads.Post
+  unfolding try
+  returns c = by-eq (sym (braced-then (c .before .before .before .before .before .before .before .before .args .tokens .now) _ _ _ (block (c .before .before .before .before .before .before .before .before .args .tokens .now) (expression (c .before .before .before .before .before .before .before .before .args .tokens .now) (c .before .before .before .before .before .before .before .before .args .less)) (statement (c .before .before .before .before .before .before .before .before .args .tokens .now) (c .before .before .before .before .before .before .before .before .args .less))))) (pass _ (c .before .before .before .before .catch-block .ensures .1 _ [] _ _ (at-once _ _ (c .before .before .before .before .before .before .before .before .pre .1 .within))) (c .enum-told .given .1))
+
+  pub behind-sign-requires : lts.Need-behind-sign-requires cs (try-statement-at t) try-statement-reads.Post
+  behind-sign-requires c κs = let h = taken (c .before .before .before .before .before .before .catch-block .ensures .1 _ [] _ _ (at-once _ _ (c .before .before .before .before .before .before .before .before .before .before .pre .1 .within))) (c .before .before .r0 .given .1) in (ready-same (c .before .before .before .before .before .before .before .before .before .before .pre .1) (c .before .before .before .before .before .before .catch-block .kept .1 .0) (h .stands .within), front-le (h .stands .front))
+
+  pub enum-known-r1 : lts.Need-enum-known-r1 cs (try-statement-at t) try-statement-reads.Post
+  enum-known-r1 c = search needs
+
+  pub enum-told-2 : lts.Need-enum-told-2 cs (try-statement-at t) try-statement-reads.Post
+  enum-told-2 c = search needs
+
+  pub same-length-2 : lts.Need-same-length-2 cs (try-statement-at t) try-statement-reads.Post
+  same-length-2 c = c .before .before .before .before .behind-sign .kept .1 .0 ∙ c .before .before .before .before .before .before .before .before .before .before .before .catch-block .kept .1 .0
+
+  pub returns-2 : lts.Need-returns-2 cs (try-statement-at t) try-statement-reads.Post
+  unfolding try
+  returns-2 c = let h = taken (c .before .before .before .before .before .before .before .before .before .before .before .catch-block .ensures .1 _ [] _ _ (at-once _ _ (c .before .before .before .before .before .before .before .before .before .before .before .before .before .before .before .pre .1 .within))) (c .before .before .before .before .before .before .before .r0 .given .1) in by-eq (sym (braced-then (c .before .before .before .before .before .before .before .before .before .before .before .before .before .before .before .args .tokens .now) _ _ _ (block (c .before .before .before .before .before .before .before .before .before .before .before .before .before .before .before .args .tokens .now) (expression (c .before .before .before .before .before .before .before .before .before .before .before .before .before .before .before .args .tokens .now) (c .before .before .before .before .before .before .before .before .before .before .before .before .before .before .before .args .less)) (statement (c .before .before .before .before .before .before .before .before .before .before .before .before .before .before .before .args .tokens .now) (c .before .before .before .before .before .before .before .before .before .before .before .before .before .before .before .args .less)))) ∙ then-read _ (h .eq) ∙ sym (sign-then (c .before .before .before .before .before .before .before .before .before .before .before .before .before .before .before .args .tokens .now) _ _ _ (expression (c .before .before .before .before .before .before .before .before .before .before .before .before .before .before .before .args .tokens .now) (c .before .before .before .before .before .before .before .before .before .before .before .before .before .before .before .args .less)) _ _)) (pass _ (c .before .before .before .before .behind-sign .ensures .1 _ _ _ _ (h .stands)) (c .enum-told2 .given .1))
+
+  pub catch-block-requires-2 : lts.Need-catch-block-requires-2 cs (try-statement-at t) try-statement-reads.Post
+  catch-block-requires-2 c κs = let h = taken (c .before .before .before .before .before .before .before .before .before .before .before .before .before .catch-block .ensures .1 _ [] _ _ (at-once _ _ (c .before .before .before .before .before .before .before .before .before .before .before .before .before .before .before .before .before .pre .1 .within))) (c .before .before .before .before .before .before .before .before .before .r0 .given .1) in let q = taken (c .before .before .before .before .before .before .behind-sign .ensures .1 _ _ _ _ (h .stands)) (c .before .before .r1 .given .1) in (falls _ _ _ _ _ _ _ (c .before .before .before .before .before .before .before .before .before .before .before .before .before .before .before .before .before .pre .0) (q .stands .on) (lit< tt), (ready-same (c .before .before .before .before .before .before .before .before .before .before .before .before .before .before .before .before .before .pre .1) (c .before .before .before .before .before .before .behind-sign .kept .1 .0 ∙ c .before .before .before .before .before .before .before .before .before .before .before .before .before .catch-block .kept .1 .0) (q .stands .within), front-le (q .stands .front)))
+
+  pub enum-known-r2 : lts.Need-enum-known-r2 cs (try-statement-at t) try-statement-reads.Post
+  enum-known-r2 c = search needs
+
+  pub enum-told-3 : lts.Need-enum-told-3 cs (try-statement-at t) try-statement-reads.Post
+  enum-told-3 c = search needs
+
+  pub same-length-3 : lts.Need-same-length-3 cs (try-statement-at t) try-statement-reads.Post
+  same-length-3 c = c .before .before .before .before .catch-block2 .kept .1 .0 ∙ c .before .before .before .before .before .before .before .before .before .before .before .behind-sign .kept .1 .0 ∙ c .before .before .before .before .before .before .before .before .before .before .before .before .before .before .before .before .before .before .catch-block .kept .1 .0
+
+  pub returns-3 : lts.Need-returns-3 cs (try-statement-at t) try-statement-reads.Post
+  unfolding try
+  returns-3 c = let h = taken (c .before .before .before .before .before .before .before .before .before .before .before .before .before .before .before .before .before .before .catch-block .ensures .1 _ [] _ _ (at-once _ _ (c .before .before .before .before .before .before .before .before .before .before .before .before .before .before .before .before .before .before .before .before .before .before .pre .1 .within))) (c .before .before .before .before .before .before .before .before .before .before .before .before .before .before .r0 .given .1) in let q = taken (c .before .before .before .before .before .before .before .before .before .before .before .behind-sign .ensures .1 _ _ _ _ (h .stands)) (c .before .before .before .before .before .before .before .r1 .given .1) in by-eq (sym (braced-then (c .before .before .before .before .before .before .before .before .before .before .before .before .before .before .before .before .before .before .before .before .before .before .args .tokens .now) _ _ _ (block (c .before .before .before .before .before .before .before .before .before .before .before .before .before .before .before .before .before .before .before .before .before .before .args .tokens .now) (expression (c .before .before .before .before .before .before .before .before .before .before .before .before .before .before .before .before .before .before .before .before .before .before .args .tokens .now) (c .before .before .before .before .before .before .before .before .before .before .before .before .before .before .before .before .before .before .before .before .before .before .args .less)) (statement (c .before .before .before .before .before .before .before .before .before .before .before .before .before .before .before .before .before .before .before .before .before .before .args .tokens .now) (c .before .before .before .before .before .before .before .before .before .before .before .before .before .before .before .before .before .before .before .before .before .before .args .less)))) ∙ then-read _ (h .eq) ∙ sym (sign-then (c .before .before .before .before .before .before .before .before .before .before .before .before .before .before .before .before .before .before .before .before .before .before .args .tokens .now) _ _ _ (expression (c .before .before .before .before .before .before .before .before .before .before .before .before .before .before .before .before .before .before .before .before .before .before .args .tokens .now) (c .before .before .before .before .before .before .before .before .before .before .before .before .before .before .before .before .before .before .before .before .before .before .args .less)) _ _) ∙ then-read _ (q .eq) ∙ sym (braced-then (c .before .before .before .before .before .before .before .before .before .before .before .before .before .before .before .before .before .before .before .before .before .before .args .tokens .now) _ _ _ (block (c .before .before .before .before .before .before .before .before .before .before .before .before .before .before .before .before .before .before .before .before .before .before .args .tokens .now) (expression (c .before .before .before .before .before .before .before .before .before .before .before .before .before .before .before .before .before .before .before .before .before .before .args .tokens .now) (c .before .before .before .before .before .before .before .before .before .before .before .before .before .before .before .before .before .before .before .before .before .before .args .less)) (statement (c .before .before .before .before .before .before .before .before .before .before .before .before .before .before .before .before .before .before .before .before .before .before .args .tokens .now) (c .before .before .before .before .before .before .before .before .before .before .before .before .before .before .before .before .before .before .before .before .before .before .args .less))))) (pass _ (c .before .before .before .before .catch-block2 .ensures .1 _ _ _ _ (q .stands)) (c .enum-told3 .given .1))
+
+  pub finally-block-requires : lts.Need-finally-block-requires cs (try-statement-at t) try-statement-reads.Post
+  finally-block-requires c κs =
+      let h = taken (c .before .before .before .before .before .before .before .before .before .before .before .before .before .before .before .before .before .before .before .before .catch-block .ensures .1 _ [] _ _ (at-once _ _ (c .before .before .before .before .before .before .before .before .before .before .before .before .before .before .before .before .before .before .before .before .before .before .before .before .pre .1 .within))) (c .before .before .before .before .before .before .before .before .before .before .before .before .before .before .before .before .r0 .given .1) in
+      let q = taken (c .before .before .before .before .before .before .before .before .before .before .before .before .before .behind-sign .ensures .1 _ _ _ _ (h .stands)) (c .before .before .before .before .before .before .before .before .before .r1 .given .1) in
+      let v = taken (c .before .before .before .before .before .before .catch-block2 .ensures .1 _ _ _ _ (q .stands)) (c .before .before .r2 .given .1) in
+      (falls _ _ _ _ _ _ _ (c .before .before .before .before .before .before .before .before .before .before .before .before .before .before .before .before .before .before .before .before .before .before .before .before .pre .0) (v .stands .on) (lit< tt), (ready-same (c .before .before .before .before .before .before .before .before .before .before .before .before .before .before .before .before .before .before .before .before .before .before .before .before .pre .1) (c .before .before .before .before .before .before .catch-block2 .kept .1 .0 ∙ c .before .before .before .before .before .before .before .before .before .before .before .before .before .behind-sign .kept .1 .0 ∙ c .before .before .before .before .before .before .before .before .before .before .before .before .before .before .before .before .before .before .before .before .catch-block .kept .1 .0) (v .stands .within), front-le (v .stands .front)))
+
+  pub enum-known-r3 : lts.Need-enum-known-r3 cs (try-statement-at t) try-statement-reads.Post
+  enum-known-r3 c = search needs
+
+  pub enum-told-4 : lts.Need-enum-told-4 cs (try-statement-at t) try-statement-reads.Post
+  enum-told-4 c = search needs
+
+  pub same-length-4 : lts.Need-same-length-4 cs (try-statement-at t) try-statement-reads.Post
+  same-length-4 c = c .before .before .before .before .finally-block .kept .1 .0 ∙ c .before .before .before .before .before .before .before .before .before .before .before .catch-block2 .kept .1 .0 ∙ c .before .before .before .before .before .before .before .before .before .before .before .before .before .before .before .before .before .before .behind-sign .kept .1 .0 ∙ c .before .before .before .before .before .before .before .before .before .before .before .before .before .before .before .before .before .before .before .before .before .before .before .before .before .catch-block .kept .1 .0
+
+  pub returns-4 : lts.Need-returns-4 cs (try-statement-at t) try-statement-reads.Post
+  unfolding try
+  returns-4 c = let h = taken (c .before .before .before .before .before .before .before .before .before .before .before .before .before .before .before .before .before .before .before .before .before .before .before .before .before .catch-block .ensures .1 _ [] _ _ (at-once _ _ (c .before .before .before .before .before .before .before .before .before .before .before .before .before .before .before .before .before .before .before .before .before .before .before .before .before .before .before .before .before .pre .1 .within))) (c .before .before .before .before .before .before .before .before .before .before .before .before .before .before .before .before .before .before .before .before .before .r0 .given .1) in let q = taken (c .before .before .before .before .before .before .before .before .before .before .before .before .before .before .before .before .before .before .behind-sign .ensures .1 _ _ _ _ (h .stands)) (c .before .before .before .before .before .before .before .before .before .before .before .before .before .before .r1 .given .1) in let v = taken (c .before .before .before .before .before .before .before .before .before .before .before .catch-block2 .ensures .1 _ _ _ _ (q .stands)) (c .before .before .before .before .before .before .before .r2 .given .1) in by-eq (sym (braced-then (c .before .before .before .before .before .before .before .before .before .before .before .before .before .before .before .before .before .before .before .before .before .before .before .before .before .before .before .before .before .args .tokens .now) _ _ _ (block (c .before .before .before .before .before .before .before .before .before .before .before .before .before .before .before .before .before .before .before .before .before .before .before .before .before .before .before .before .before .args .tokens .now) (expression (c .before .before .before .before .before .before .before .before .before .before .before .before .before .before .before .before .before .before .before .before .before .before .before .before .before .before .before .before .before .args .tokens .now) (c .before .before .before .before .before .before .before .before .before .before .before .before .before .before .before .before .before .before .before .before .before .before .before .before .before .before .before .before .before .args .less)) (statement (c .before .before .before .before .before .before .before .before .before .before .before .before .before .before .before .before .before .before .before .before .before .before .before .before .before .before .before .before .before .args .tokens .now) (c .before .before .before .before .before .before .before .before .before .before .before .before .before .before .before .before .before .before .before .before .before .before .before .before .before .before .before .before .before .args .less)))) ∙ then-read _ (h .eq) ∙ sym (sign-then (c .before .before .before .before .before .before .before .before .before .before .before .before .before .before .before .before .before .before .before .before .before .before .before .before .before .before .before .before .before .args .tokens .now) _ _ _ (expression (c .before .before .before .before .before .before .before .before .before .before .before .before .before .before .before .before .before .before .before .before .before .before .before .before .before .before .before .before .before .args .tokens .now) (c .before .before .before .before .before .before .before .before .before .before .before .before .before .before .before .before .before .before .before .before .before .before .before .before .before .before .before .before .before .args .less)) _ _) ∙ then-read _ (q .eq) ∙ sym (braced-then (c .before .before .before .before .before .before .before .before .before .before .before .before .before .before .before .before .before .before .before .before .before .before .before .before .before .before .before .before .before .args .tokens .now) _ _ _ (block (c .before .before .before .before .before .before .before .before .before .before .before .before .before .before .before .before .before .before .before .before .before .before .before .before .before .before .before .before .before .args .tokens .now) (expression (c .before .before .before .before .before .before .before .before .before .before .before .before .before .before .before .before .before .before .before .before .before .before .before .before .before .before .before .before .before .args .tokens .now) (c .before .before .before .before .before .before .before .before .before .before .before .before .before .before .before .before .before .before .before .before .before .before .before .before .before .before .before .before .before .args .less)) (statement (c .before .before .before .before .before .before .before .before .before .before .before .before .before .before .before .before .before .before .before .before .before .before .before .before .before .before .before .before .before .args .tokens .now) (c .before .before .before .before .before .before .before .before .before .before .before .before .before .before .before .before .before .before .before .before .before .before .before .before .before .before .before .before .before .args .less)))) ∙ then-read _ (v .eq)) (pass _ (c .before .before .before .before .finally-block .ensures .1 _ _ _ _ (v .stands)) (c .enum-told4 .given .1))
+
+  pub put-row-requires : lts.Need-put-row-requires cs (try-statement-at t) try-statement-reads.Post
+  put-row-requires c κs = (fits-same _ _ _ (c .before .before .before .before .before .before .before .before .before .before .before .before .before .before .before .before .before .before .before .before .before .before .before .before .before .before .before .before .before .before .before .pre .1 .fits) (c .before .before .before .before .before .before .finally-block .kept .1 .0 ∙ c .before .before .before .before .before .before .before .before .before .before .before .before .before .catch-block2 .kept .1 .0 ∙ c .before .before .before .before .before .before .before .before .before .before .before .before .before .before .before .before .before .before .before .before .behind-sign .kept .1 .0 ∙ c .before .before .before .before .before .before .before .before .before .before .before .before .before .before .before .before .before .before .before .before .before .before .before .before .before .before .before .catch-block .kept .1 .0), small (c .before .before .before .before .before .before .before .before .before .before .before .before .before .before .before .before .before .before .before .before .before .before .before .before .before .before .before .before .before .before .before .pre .1))
+
+  pub same-length-5 : lts.Need-same-length-5 cs (try-statement-at t) try-statement-reads.Post
+  same-length-5 c = c .before .before .put-row .kept .0 ∙ c .before .before .before .before .before .before .before .before .before .finally-block .kept .1 .0 ∙ c .before .before .before .before .before .before .before .before .before .before .before .before .before .before .before .before .catch-block2 .kept .1 .0 ∙ c .before .before .before .before .before .before .before .before .before .before .before .before .before .before .before .before .before .before .before .before .before .before .before .behind-sign .kept .1 .0 ∙ c .before .before .before .before .before .before .before .before .before .before .before .before .before .before .before .before .before .before .before .before .before .before .before .before .before .before .before .before .before .before .catch-block .kept .1 .0
+
+  pub returns-5 : lts.Need-returns-5 cs (try-statement-at t) try-statement-reads.Post
+  unfolding try
+  returns-5 c =
+      let h = taken (c .before .before .before .before .before .before .before .before .before .before .before .before .before .before .before .before .before .before .before .before .before .before .before .before .before .before .before .before .before .before .catch-block .ensures .1 _ [] _ _ (at-once _ _ (c .before .before .before .before .before .before .before .before .before .before .before .before .before .before .before .before .before .before .before .before .before .before .before .before .before .before .before .before .before .before .before .before .before .before .pre .1 .within))) (c .before .before .before .before .before .before .before .before .before .before .before .before .before .before .before .before .before .before .before .before .before .before .before .before .before .before .r0 .given .1) in
+      let q = taken (c .before .before .before .before .before .before .before .before .before .before .before .before .before .before .before .before .before .before .before .before .before .before .before .behind-sign .ensures .1 _ _ _ _ (h .stands)) (c .before .before .before .before .before .before .before .before .before .before .before .before .before .before .before .before .before .before .before .r1 .given .1) in
+      let v = taken (c .before .before .before .before .before .before .before .before .before .before .before .before .before .before .before .before .catch-block2 .ensures .1 _ _ _ _ (q .stands)) (c .before .before .before .before .before .before .before .before .before .before .before .before .r2 .given .1) in
+      let w = taken (c .before .before .before .before .before .before .before .before .before .finally-block .ensures .1 _ _ _ _ (v .stands)) (c .before .before .before .before .before .r3 .given .1) in
+      by-eq (sym (braced-then (c .before .before .before .before .before .before .before .before .before .before .before .before .before .before .before .before .before .before .before .before .before .before .before .before .before .before .before .before .before .before .before .before .before .before .args .tokens .now) _ _ _ (block (c .before .before .before .before .before .before .before .before .before .before .before .before .before .before .before .before .before .before .before .before .before .before .before .before .before .before .before .before .before .before .before .before .before .before .args .tokens .now) (expression (c .before .before .before .before .before .before .before .before .before .before .before .before .before .before .before .before .before .before .before .before .before .before .before .before .before .before .before .before .before .before .before .before .before .before .args .tokens .now) (c .before .before .before .before .before .before .before .before .before .before .before .before .before .before .before .before .before .before .before .before .before .before .before .before .before .before .before .before .before .before .before .before .before .before .args .less)) (statement (c .before .before .before .before .before .before .before .before .before .before .before .before .before .before .before .before .before .before .before .before .before .before .before .before .before .before .before .before .before .before .before .before .before .before .args .tokens .now) (c .before .before .before .before .before .before .before .before .before .before .before .before .before .before .before .before .before .before .before .before .before .before .before .before .before .before .before .before .before .before .before .before .before .before .args .less)))) ∙ then-read _ (h .eq) ∙ sym (sign-then (c .before .before .before .before .before .before .before .before .before .before .before .before .before .before .before .before .before .before .before .before .before .before .before .before .before .before .before .before .before .before .before .before .before .before .args .tokens .now) _ _ _ (expression (c .before .before .before .before .before .before .before .before .before .before .before .before .before .before .before .before .before .before .before .before .before .before .before .before .before .before .before .before .before .before .before .before .before .before .args .tokens .now) (c .before .before .before .before .before .before .before .before .before .before .before .before .before .before .before .before .before .before .before .before .before .before .before .before .before .before .before .before .before .before .before .before .before .before .args .less)) _ _) ∙ then-read _ (q .eq) ∙ sym (braced-then (c .before .before .before .before .before .before .before .before .before .before .before .before .before .before .before .before .before .before .before .before .before .before .before .before .before .before .before .before .before .before .before .before .before .before .args .tokens .now) _ _ _ (block (c .before .before .before .before .before .before .before .before .before .before .before .before .before .before .before .before .before .before .before .before .before .before .before .before .before .before .before .before .before .before .before .before .before .before .args .tokens .now) (expression (c .before .before .before .before .before .before .before .before .before .before .before .before .before .before .before .before .before .before .before .before .before .before .before .before .before .before .before .before .before .before .before .before .before .before .args .tokens .now) (c .before .before .before .before .before .before .before .before .before .before .before .before .before .before .before .before .before .before .before .before .before .before .before .before .before .before .before .before .before .before .before .before .before .before .args .less)) (statement (c .before .before .before .before .before .before .before .before .before .before .before .before .before .before .before .before .before .before .before .before .before .before .before .before .before .before .before .before .before .before .before .before .before .before .args .tokens .now) (c .before .before .before .before .before .before .before .before .before .before .before .before .before .before .before .before .before .before .before .before .before .before .before .before .before .before .before .before .before .before .before .before .before .before .args .less)))) ∙ then-read _ (v .eq) ∙ then-read _ (w .eq))
+      (c .before .before .put-row .ensures (c .before .before .before .before .before .before .before .before .before .before .before .before .before .before .before .before .before .before .before .before .before .before .before .before .before .before .before .before .before .before .before .before .before .before .args .tokens .now) (w .stands .within) .1 _ [] _ _ _ _ (w .stands) (record { few = tt; root = of-node; refs = (h .head, q .head, v .head, w .head) }))

@@ -1,0 +1,86 @@
+-- `while_statement` meets its contract: the condition in brackets, and the body behind it.
+use lib.Dec.{lit<}
+use mathlib.Core.Path.{refl, sym, _∙_}
+use mathlib.Core.List.{[]}
+use Prim.Native.Nat.{ℕ}
+use borrow.Author.Tests.{not-true, not-false}
+use Rattle.grammar.specs.Expressions.{expression}
+use Rattle.grammar.specs.Statements.{statement, block, while}
+use Rattle.parser.specs.Meets.{of-node}
+use Rattle.parser.proofs.Answers.{taken, pass, by-eq, refuses, then-read, need-met, need-failed, sooner}
+use Rattle.parser.proofs.Bodies.{open-then}
+use Rattle.parser.proofs.Moves.{falls, fits-same, front-le, le-trans, on-step, ready-same, ready-step, small}
+use borrow.Author.Needs.{needs}
+use Rattle.parser.proofs.expressions.expression.Reads as expression-reads
+use Rattle.words.proofs.iterate.Reads as iterate-reads
+use Rattle.words.proofs.next_symbol_is.Reads as next-symbol-is-reads
+use Rattle.parser.proofs.statements.open_body.Reads as open-body-reads
+use Rattle.parser.proofs.part.put_row.Reads as put-row-reads
+use Rattle.parser.proofs.statements.while_statement.Reads as while-statement-reads
+use Rattle.parser.proofs.statements.+at_keyword+block+block_behind+body+catch_block+else_block+finally_block+for_each+for_loop+function+if_statement+one_behind+open_body+statement+statements+try_statement+while_statement.Lts-while_statement as lts
+use Rattle.parser.proofs.statements.+at_keyword+block+block_behind+body+catch_block+else_block+finally_block+for_each+for_loop+function+if_statement+one_behind+open_body+statement+statements+try_statement+while_statement.Proof.Measures.{while-statement-at, open-body-below}
+
+module _ (t : ℕ) where
+  abbrev cs : lts.Claims
+  cs = (next-symbol-is-reads.Asked, next-symbol-is-reads.Learnt, iterate-reads.Asked, iterate-reads.Learnt, expression-reads.Asked, expression-reads.Learnt, open-body-below t, open-body-reads.Post, put-row-reads.Asked, put-row-reads.Learnt)
+
+  pub next-symbol-is-requires : lts.Need-next-symbol-is-requires cs (while-statement-at t) while-statement-reads.Post
+  next-symbol-is-requires c κs = search needs
+
+  pub returns : lts.Need-returns cs (while-statement-at t) while-statement-reads.Post
+  unfolding while
+  returns c = refuses _ _ _ (need-failed _ _ _ (sym (c .before .next-symbol-is .ensures) ∙ not-true _ (c .if1 .taken)))
+
+  pub iterate-requires : lts.Need-iterate-requires cs (while-statement-at t) while-statement-reads.Post
+  iterate-requires c κs = search needs
+
+  pub iterate-requires-2 : lts.Need-iterate-requires-2 cs (while-statement-at t) while-statement-reads.Post
+  iterate-requires-2 c κs = search needs
+
+  pub expression-requires : lts.Need-expression-requires cs (while-statement-at t) while-statement-reads.Post
+  expression-requires c κs = ready-step _ _ (c .before .iterate2 .ensures) (ready-step _ _ (c .before .before .iterate .ensures) (c .before .before .before .before .before .before .before .pre .1))
+
+  pub enum-known-r : lts.Need-enum-known-r cs (while-statement-at t) while-statement-reads.Post
+  enum-known-r c = search needs
+
+  pub enum-told : lts.Need-enum-told cs (while-statement-at t) while-statement-reads.Post
+  enum-told c = search needs
+
+  pub same-length : lts.Need-same-length cs (while-statement-at t) while-statement-reads.Post
+  same-length c = c .before .before .before .before .expression .kept .1 .0
+
+  pub returns-2 : lts.Need-returns-2 cs (while-statement-at t) while-statement-reads.Post
+  unfolding while
+  returns-2 c = by-eq (need-met _ _ _ (sym (c .before .before .before .before .before .before .before .before .before .next-symbol-is .ensures) ∙ not-false _ (c .before .before .before .before .before .before .before .before .if1 .left))) (rw (← (c .before .before .before .before .before .before .before .iterate .ensures), ← (c .before .before .before .before .before .before .iterate2 .ensures)) (pass _ (c .before .before .before .before .expression .ensures) (c .enum-told .given .1)))
+
+  pub open-body-requires : lts.Need-open-body-requires cs (while-statement-at t) while-statement-reads.Post
+  open-body-requires c κs =
+      let h = taken (c .before .before .before .before .before .before .expression .ensures) (c .before .before .r .given .1) in
+      (falls _ _ _ _ _ _ _ (c .before .before .before .before .before .before .before .before .before .before .before .before .before .before .pre .0) (le-trans (on-step _ _ (c .before .before .before .before .before .before .before .before .before .iterate .ensures)) (le-trans (on-step _ _ (c .before .before .before .before .before .before .before .before .iterate2 .ensures)) (h .stands .on))) (lit< tt), (ready-same (c .before .before .before .before .before .before .before .before .before .before .before .before .before .before .pre .1) (c .before .before .before .before .before .before .expression .kept .1 .0) (h .stands .within), front-le (h .stands .front)))
+
+  pub enum-known-q : lts.Need-enum-known-q cs (while-statement-at t) while-statement-reads.Post
+  enum-known-q c = search needs
+
+  pub enum-told-2 : lts.Need-enum-told-2 cs (while-statement-at t) while-statement-reads.Post
+  enum-told-2 c = search needs
+
+  pub same-length-2 : lts.Need-same-length-2 cs (while-statement-at t) while-statement-reads.Post
+  same-length-2 c = c .before .before .before .before .open-body .kept .1 .0 ∙ c .before .before .before .before .before .before .before .before .before .before .before .expression .kept .1 .0
+
+  pub returns-3 : lts.Need-returns-3 cs (while-statement-at t) while-statement-reads.Post
+  unfolding while
+  returns-3 c = let h = taken (c .before .before .before .before .before .before .before .before .before .before .before .expression .ensures) (c .before .before .before .before .before .before .before .r .given .1) in by-eq (need-met _ _ _ (sym (c .before .before .before .before .before .before .before .before .before .before .before .before .before .before .before .before .next-symbol-is .ensures) ∙ not-false _ (c .before .before .before .before .before .before .before .before .before .before .before .before .before .before .before .if1 .left))) (rw (← (c .before .before .before .before .before .before .before .before .before .before .before .before .before .before .iterate .ensures), ← (c .before .before .before .before .before .before .before .before .before .before .before .before .before .iterate2 .ensures)) (by-eq (then-read _ (h .eq) ∙ sym (open-then (c .before .before .before .before .before .before .before .before .before .before .before .before .before .before .before .before .before .before .before .args .tokens .now) _ _ _ (block (c .before .before .before .before .before .before .before .before .before .before .before .before .before .before .before .before .before .before .before .args .tokens .now) (expression (c .before .before .before .before .before .before .before .before .before .before .before .before .before .before .before .before .before .before .before .args .tokens .now) (c .before .before .before .before .before .before .before .before .before .before .before .before .before .before .before .before .before .before .before .args .less)) (statement (c .before .before .before .before .before .before .before .before .before .before .before .before .before .before .before .before .before .before .before .args .tokens .now) (c .before .before .before .before .before .before .before .before .before .before .before .before .before .before .before .before .before .before .before .args .less))) _)) (pass _ (c .before .before .before .before .open-body .ensures .1 _ _ _ _ (h .stands)) (c .enum-told2 .given .1))))
+
+  pub put-row-requires : lts.Need-put-row-requires cs (while-statement-at t) while-statement-reads.Post
+  put-row-requires c κs = (fits-same _ _ _ (c .before .before .before .before .before .before .before .before .before .before .before .before .before .before .before .before .before .before .before .before .before .pre .1 .fits) (c .before .before .before .before .before .before .open-body .kept .1 .0 ∙ c .before .before .before .before .before .before .before .before .before .before .before .before .before .expression .kept .1 .0), small (c .before .before .before .before .before .before .before .before .before .before .before .before .before .before .before .before .before .before .before .before .before .pre .1))
+
+  pub same-length-3 : lts.Need-same-length-3 cs (while-statement-at t) while-statement-reads.Post
+  same-length-3 c = c .before .before .put-row .kept .0 ∙ c .before .before .before .before .before .before .before .before .before .open-body .kept .1 .0 ∙ c .before .before .before .before .before .before .before .before .before .before .before .before .before .before .before .before .expression .kept .1 .0
+
+  pub returns-4 : lts.Need-returns-4 cs (while-statement-at t) while-statement-reads.Post
+  unfolding while
+  returns-4 c =
+      let h = taken (c .before .before .before .before .before .before .before .before .before .before .before .before .before .before .before .before .expression .ensures) (c .before .before .before .before .before .before .before .before .before .before .before .before .r .given .1) in
+      let q = taken (c .before .before .before .before .before .before .before .before .before .open-body .ensures .1 _ _ _ _ (h .stands)) (c .before .before .before .before .before .q .given .1) in
+      sooner (le-trans (on-step _ _ (c .before .before .before .before .before .before .before .before .before .before .before .before .before .before .before .before .before .before .before .iterate .ensures)) (on-step _ _ (c .before .before .before .before .before .before .before .before .before .before .before .before .before .before .before .before .before .before .iterate2 .ensures))) (by-eq (need-met _ _ _ (sym (c .before .before .before .before .before .before .before .before .before .before .before .before .before .before .before .before .before .before .before .before .before .next-symbol-is .ensures) ∙ not-false _ (c .before .before .before .before .before .before .before .before .before .before .before .before .before .before .before .before .before .before .before .before .if1 .left))) (rw (← (c .before .before .before .before .before .before .before .before .before .before .before .before .before .before .before .before .before .before .before .iterate .ensures), ← (c .before .before .before .before .before .before .before .before .before .before .before .before .before .before .before .before .before .before .iterate2 .ensures)) (by-eq (then-read _ (h .eq) ∙ sym (open-then (c .before .before .before .before .before .before .before .before .before .before .before .before .before .before .before .before .before .before .before .before .before .before .before .before .args .tokens .now) _ _ _ (block (c .before .before .before .before .before .before .before .before .before .before .before .before .before .before .before .before .before .before .before .before .before .before .before .before .args .tokens .now) (expression (c .before .before .before .before .before .before .before .before .before .before .before .before .before .before .before .before .before .before .before .before .before .before .before .before .args .tokens .now) (c .before .before .before .before .before .before .before .before .before .before .before .before .before .before .before .before .before .before .before .before .before .before .before .before .args .less)) (statement (c .before .before .before .before .before .before .before .before .before .before .before .before .before .before .before .before .before .before .before .before .before .before .before .before .args .tokens .now) (c .before .before .before .before .before .before .before .before .before .before .before .before .before .before .before .before .before .before .before .before .before .before .before .before .args .less))) _) ∙ then-read _ (q .eq))
+      (c .before .before .put-row .ensures (c .before .before .before .before .before .before .before .before .before .before .before .before .before .before .before .before .before .before .before .before .before .before .before .before .args .tokens .now) (q .stands .within) .1 _ [] _ _ _ _ (q .stands) (record { few = tt; root = of-node; refs = (h .head, q .head, refl, refl) })))))
