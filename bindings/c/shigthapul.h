@@ -1,0 +1,136 @@
+/* Shigthapul, a proved reader for scripts in the Boson language: its C functions, and small helpers around them. */
+#ifndef SHIGTHAPUL_H
+#define SHIGTHAPUL_H
+
+#include <stdbool.h>
+#include <stddef.h>
+#include <stdint.h>
+#include <string.h>
+
+#include "shigthapul_numbers.h"
+
+#ifdef __cplusplus
+extern "C" {
+#endif
+
+/* What a caller owes. Each pointer is followed by a length in elements. It must be good for so many elements, aligned
+   for their type and not null, also where the length is 0. What is written must overlap nothing else that is lent.
+   No pointer is kept after a call, and there is no state: any number of threads may call.
+
+   What a caller gets. Nothing else is asked: for any words and any lengths the functions are proved to stay inside
+   what they are lent, and to return. Each writes four words to the front of `answer`, as far as that goes; words
+   behind the fourth stay as they were. */
+
+/* The words of an answer.
+
+   The entries that read tokens      0, root reference, rows used, place of the current token
+   The file reader and the fold      0, count of fields or length of the text, 0, 0
+   The text                          0, its length, 1 where it is the front of `work` and 0 where it is the payload, 0
+   A refusal                         its number, its place, 0, 0 */
+enum { SHIGTHAPUL_ANSWER_WORDS = 4 };
+
+/* A row of the pool has eight words: kind, mark, place, four children, next. A reference is a row's number plus one,
+   and 0 for none. A pool of `n` words has n / 8 rows, at most 65,535. */
+enum { SHIGTHAPUL_ROW_WORDS = 8, SHIGTHAPUL_CHILDREN = 4 };
+
+/* Read one expression, or one statement, from the place `start`. `tokens` has 1 to 32,768 words, EOF last and nowhere
+   else. The tree goes into `pool`, every other word of which becomes 0; after a refusal all of them are 0. A statement
+   that is a lone Empty token is accepted with root 0. */
+void shigthapul_one_expression(const uint16_t *tokens, size_t tokens_len, uint32_t *pool, size_t pool_len, size_t start,
+                               uint64_t *answer, size_t answer_len);
+void shigthapul_one_statement(const uint16_t *tokens, size_t tokens_len, uint32_t *pool, size_t pool_len, size_t start,
+                              uint64_t *answer, size_t answer_len);
+
+/* Reads a whole script: the same, from place 0 to EOF. The root is a block at place 0. */
+void shigthapul_whole_script(const uint16_t *tokens, size_t tokens_len, uint32_t *pool, size_t pool_len,
+                             uint64_t *answer, size_t answer_len);
+
+/* Reads a token file of at most 60,000 bytes into the front of `words`, and zeroes the rest; after a refusal every
+   word is 0. */
+void shigthapul_read_file(const uint8_t *bytes, size_t bytes_len, uint16_t *words, size_t words_len, uint64_t *answer,
+                          size_t answer_len);
+
+/* Folds a string's payload: each pair of backslashes becomes one, in the front of `work`; the bytes behind stay as
+   they were. With no pair, or where `work` is too short (refusal 3), `work` stays untouched. */
+void shigthapul_fold(const uint8_t *payload, size_t payload_len, uint8_t *work, size_t work_len, uint64_t *answer,
+                     size_t answer_len);
+
+/* Says where the text of a string is, after the fold: in the payload itself where that has no pair, otherwise in the
+   front of `work`; of length 0 where `work` is too short. */
+void shigthapul_text(const uint8_t *payload, size_t payload_len, const uint8_t *work, size_t work_len,
+                     uint64_t *answer, size_t answer_len);
+
+/* The answer of any of them: pass `words` and SHIGTHAPUL_ANSWER_WORDS. */
+struct shigthapul_answer {
+    uint64_t words[SHIGTHAPUL_ANSWER_WORDS];
+};
+
+/* The number of the refusal, 0 where there is none. */
+static inline uint32_t shigthapul_refusal(const struct shigthapul_answer *answer) {
+    return (uint32_t)answer->words[0];
+}
+
+/* Whether it was accepted. */
+static inline bool shigthapul_is_accepted(const struct shigthapul_answer *answer) {
+    return shigthapul_refusal(answer) == 0;
+}
+
+/* The place of a refusal; or of the current token behind an accepted piece, the last one that it used. */
+static inline size_t shigthapul_place(const struct shigthapul_answer *answer) {
+    return (size_t)answer->words[shigthapul_is_accepted(answer) ? 3 : 1];
+}
+
+/* The reference of an accepted root, and how many rows are used. */
+static inline uint32_t shigthapul_root(const struct shigthapul_answer *answer) {
+    return shigthapul_is_accepted(answer) ? (uint32_t)answer->words[1] : 0;
+}
+
+static inline size_t shigthapul_rows(const struct shigthapul_answer *answer) {
+    return (size_t)answer->words[2];
+}
+
+/* The count of fields that were read, or the length of a text. */
+static inline size_t shigthapul_count(const struct shigthapul_answer *answer) {
+    return shigthapul_is_accepted(answer) ? (size_t)answer->words[1] : 0;
+}
+
+/* A row, and the row of a reference that is not 0. */
+struct shigthapul_row {
+    uint32_t kind;
+    uint32_t mark;
+    uint32_t place;
+    uint32_t children[SHIGTHAPUL_CHILDREN];
+    uint32_t next;
+};
+
+static inline struct shigthapul_row shigthapul_row_at(const uint32_t *pool, uint32_t reference) {
+    struct shigthapul_row row;
+    memcpy(&row, pool + SHIGTHAPUL_ROW_WORDS * ((size_t)reference - 1), sizeof row);
+    return row;
+}
+
+/* Whether a row is of a kind and has a flag in its mark. */
+static inline bool shigthapul_has(const struct shigthapul_row *row, enum shigthapul_kind kind,
+                                  enum shigthapul_mark flag) {
+    return row->kind == (uint32_t)kind && (row->mark & (uint32_t)flag) != 0;
+}
+
+/* Some bytes, and the text of a string after its fold. */
+struct shigthapul_bytes {
+    const uint8_t *start;
+    size_t length;
+};
+
+static inline struct shigthapul_bytes shigthapul_text_of(const uint8_t *payload, size_t payload_len,
+                                                         const uint8_t *work, size_t work_len) {
+    struct shigthapul_answer answer;
+    shigthapul_text(payload, payload_len, work, work_len, answer.words, SHIGTHAPUL_ANSWER_WORDS);
+    struct shigthapul_bytes text = {answer.words[2] == 1 ? work : payload, shigthapul_count(&answer)};
+    return text;
+}
+
+#ifdef __cplusplus
+}
+#endif
+
+#endif

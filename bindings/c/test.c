@@ -1,0 +1,127 @@
+/* Tests of the header's helpers and of each C function. Prints a line for each check that fails, then the counts; the
+   status is 1 if any failed. */
+#include <stdio.h>
+#include <string.h>
+
+#include "shigthapul.h"
+
+enum {
+    A = SHIGTHAPUL_CLASS_IDENTIFIER << 8,
+    EMPTY = SHIGTHAPUL_CLASS_EMPTY << 8,
+    END = SHIGTHAPUL_CLASS_EOF << 8,
+    PLUS = SHIGTHAPUL_CLASS_OPERATOR << 8 | SHIGTHAPUL_SPlus,
+    OPEN = SHIGTHAPUL_CLASS_OPERATOR << 8 | SHIGTHAPUL_SLParen,
+    CLOSE = SHIGTHAPUL_CLASS_OPERATOR << 8 | SHIGTHAPUL_SRparen
+};
+
+#define LENGTH(array) (sizeof(array) / sizeof(array)[0])
+#define ANSWER(answer) (answer).words, SHIGTHAPUL_ANSWER_WORDS
+#define CHECK(holds) check(holds, #holds, __LINE__)
+
+static int passed, failed;
+static uint32_t pool[10 * SHIGTHAPUL_ROW_WORDS];
+
+static void check(bool holds, const char *text, int line) {
+    if (holds) {
+        passed++;
+    } else {
+        failed++;
+        printf("line %d: %s\n", line, text);
+    }
+}
+
+/* How many words of the pool are not 0, from a row on. */
+static size_t left(size_t row) {
+    size_t count = 0;
+    for (size_t i = row * SHIGTHAPUL_ROW_WORDS; i < LENGTH(pool); i++)
+        count += pool[i] != 0;
+    return count;
+}
+
+static void test_expression(void) {
+    const uint16_t sum[] = {A, PLUS, A, END};
+    struct shigthapul_answer answer;
+    memset(pool, 7, sizeof pool);
+    shigthapul_one_expression(sum, LENGTH(sum), pool, LENGTH(pool), 0, ANSWER(answer));
+    CHECK(shigthapul_is_accepted(&answer) && shigthapul_refusal(&answer) == 0);
+    CHECK(shigthapul_root(&answer) == 3 && shigthapul_rows(&answer) == 3 && shigthapul_place(&answer) == 2);
+    CHECK(left(3) == 0);
+    struct shigthapul_row row = shigthapul_row_at(pool, shigthapul_root(&answer));
+    CHECK(row.kind == SHIGTHAPUL_KIND_INFIX && row.mark == SHIGTHAPUL_INFIX_PLUS && row.place == 1 && row.next == 0);
+    CHECK(row.children[0] == 1 && row.children[1] == 2 && row.children[2] == 0 && row.children[3] == 0);
+    CHECK(!shigthapul_has(&row, SHIGTHAPUL_KIND_CALL, SHIGTHAPUL_THREAD));
+}
+
+static void test_refusal(void) {
+    const uint16_t group[] = {OPEN, A, CLOSE, END};
+    struct shigthapul_answer answer;
+    memset(pool, 7, sizeof pool);
+    shigthapul_whole_script(group, LENGTH(group), pool, LENGTH(pool), ANSWER(answer));
+    CHECK(!shigthapul_is_accepted(&answer));
+    CHECK(shigthapul_refusal(&answer) == SHIGTHAPUL_REFUSED_INVALID_SYNTAX && shigthapul_place(&answer) == 1);
+    CHECK(shigthapul_root(&answer) == 0 && shigthapul_rows(&answer) == 0 && shigthapul_count(&answer) == 0);
+    CHECK(left(0) == 0);
+}
+
+static void test_statement(void) {
+    const uint16_t blank[] = {A, EMPTY, END};
+    struct shigthapul_answer answer;
+    shigthapul_one_statement(blank, LENGTH(blank), pool, LENGTH(pool), 1, ANSWER(answer));
+    CHECK(shigthapul_is_accepted(&answer) && shigthapul_root(&answer) == 0 && shigthapul_place(&answer) == 1);
+    shigthapul_one_statement(blank, LENGTH(blank), pool, LENGTH(pool), 3, ANSWER(answer));
+    CHECK(shigthapul_refusal(&answer) == SHIGTHAPUL_REFUSED_BAD_START && shigthapul_place(&answer) == 0);
+}
+
+static void test_file(void) {
+    const uint8_t file[] = {7, 0, 1, 'a', 2, 0, 0};
+    uint16_t words[] = {9, 9, 9};
+    struct shigthapul_answer answer;
+    shigthapul_read_file(file, LENGTH(file), words, LENGTH(words), ANSWER(answer));
+    CHECK(shigthapul_count(&answer) == 2 && words[0] == A && words[1] == END && words[2] == 0);
+    shigthapul_read_file(file, LENGTH(file) - 1, words, LENGTH(words), ANSWER(answer));
+    CHECK(shigthapul_refusal(&answer) == SHIGTHAPUL_REFUSED_BAD_FIELD && shigthapul_place(&answer) == 1);
+    CHECK(words[0] == 0 && words[1] == 0 && words[2] == 0);
+}
+
+static void test_text(void) {
+    const uint8_t plain[] = {'a', '\\', 'b'}, paired[] = {'a', '\\', '\\', 'b'};
+    uint8_t work[] = {'.', '.', '.', '.'};
+    struct shigthapul_answer answer;
+    shigthapul_fold(plain, LENGTH(plain), work, LENGTH(work), ANSWER(answer));
+    CHECK(shigthapul_count(&answer) == 3 && memcmp(work, "....", 4) == 0);
+    struct shigthapul_bytes text = shigthapul_text_of(plain, LENGTH(plain), work, LENGTH(work));
+    CHECK(text.start == plain && text.length == 3);
+    shigthapul_fold(paired, LENGTH(paired), work, LENGTH(work), ANSWER(answer));
+    CHECK(shigthapul_count(&answer) == 3 && memcmp(work, "a\\b.", 4) == 0);
+    text = shigthapul_text_of(paired, LENGTH(paired), work, LENGTH(work));
+    CHECK(text.start == work && text.length == 3);
+    CHECK(shigthapul_text_of(paired, LENGTH(paired), work, 2).length == 0);
+    shigthapul_fold(paired, LENGTH(paired), work, 2, ANSWER(answer));
+    CHECK(shigthapul_refusal(&answer) == SHIGTHAPUL_REFUSED_NO_ROOM);
+}
+
+static void test_numbers(void) {
+    CHECK(shigthapul_word(SHIGTHAPUL_CLASS_KEYWORD, SHIGTHAPUL_KAsync) == 0x091B);
+    CHECK(strcmp(shigthapul_symbol_text(SHIGTHAPUL_SImpl), "=>") == 0);
+    CHECK(strcmp(shigthapul_kind_text(SHIGTHAPUL_KIND_FOREACH), "foreach") == 0);
+    CHECK(strcmp(shigthapul_refusal_text(7), "?") == 0);
+}
+
+static void test_short_answer(void) {
+    const uint16_t empty[] = {END};
+    uint64_t words[] = {9, 9, 9};
+    shigthapul_whole_script(empty, LENGTH(empty), pool, LENGTH(pool), words, 2);
+    CHECK(words[0] == 0 && words[1] == 1 && words[2] == 9);
+}
+
+int main(void) {
+    test_expression();
+    test_refusal();
+    test_statement();
+    test_file();
+    test_text();
+    test_numbers();
+    test_short_answer();
+    printf("%d passed; %d failed\n", passed, failed);
+    return failed > 0;
+}

@@ -1,0 +1,78 @@
+//! The three entries that read tokens.
+use crate::{raw, Refusal, Tree};
+
+/// Reads one expression from a start place. What stands behind it is not looked at.
+///
+/// ```
+/// use shigthapul::{one_expression, Infix, Reason};
+///
+/// // `a + b` and EOF
+/// let tokens = [0x0700, 0x0801, 0x0700, 0x0200];
+/// let mut pool = [0; 24];
+/// let tree = one_expression(&tokens, &mut pool, 0).unwrap();
+/// assert_eq!(tree.root().unwrap().infix(), Some(Infix::Plus));
+/// assert_eq!(tree.last_place(), 2);
+///
+/// // Three rows are just enough.
+/// let refusal = one_expression(&tokens, &mut pool[..16], 0).unwrap_err();
+/// assert_eq!((refusal.reason, refusal.place), (Reason::NoRoom, 2));
+/// assert_eq!(pool[..16], [0; 16]);
+/// ```
+pub fn one_expression<'a>(
+    tokens: &[u16],
+    pool: &'a mut [u32],
+    start: usize,
+) -> Result<Tree<'a>, Refusal> {
+    let mut answer = [0; 4];
+    raw::one_expression(tokens, pool, start, &mut answer);
+    tree_of(answer, pool)
+}
+
+/// Reads one statement from a start place. A lone Empty token is accepted, and gives no root.
+///
+/// ```
+/// use shigthapul::{one_statement, Keyword, Kind, Symbol, Token};
+///
+/// let words = [
+///     Token::Empty.word(),
+///     Token::Keyword(Keyword::KBreak).word(),
+///     Token::Operator(Symbol::SSemiColon).word(),
+///     Token::EOF.word(),
+/// ];
+/// let mut pool = [0; 8];
+/// assert_eq!(one_statement(&words, &mut pool, 0).unwrap().root(), None);
+/// assert_eq!(one_statement(&words, &mut pool, 1).unwrap().root().unwrap().kind(), Kind::Break);
+/// ```
+pub fn one_statement<'a>(
+    tokens: &[u16],
+    pool: &'a mut [u32],
+    start: usize,
+) -> Result<Tree<'a>, Refusal> {
+    let mut answer = [0; 4];
+    raw::one_statement(tokens, pool, start, &mut answer);
+    tree_of(answer, pool)
+}
+
+/// Reads a whole script. The root is a block at place 0.
+///
+/// ```
+/// use shigthapul::{whole_script, Kind};
+///
+/// // `a b` and EOF: statements need nothing between them.
+/// let mut pool = [0; 40];
+/// let tree = whole_script(&[0x0700, 0x0700, 0x0200], &mut pool).unwrap();
+/// let statements: Vec<Kind> = tree.root().unwrap().children().map(|node| node.kind()).collect();
+/// assert_eq!(statements, [Kind::Expression, Kind::Expression]);
+/// ```
+pub fn whole_script<'a>(tokens: &[u16], pool: &'a mut [u32]) -> Result<Tree<'a>, Refusal> {
+    let mut answer = [0; 4];
+    raw::whole_script(tokens, pool, &mut answer);
+    tree_of(answer, pool)
+}
+
+/// The tree of an answer's words.
+fn tree_of(answer: [u64; 4], pool: &[u32]) -> Result<Tree<'_>, Refusal> {
+    Refusal::check(&answer)?;
+    let [_, root, rows, place] = answer;
+    Ok(Tree::new(pool, root as u32, rows as usize, place as usize))
+}

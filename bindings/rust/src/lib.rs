@@ -1,0 +1,59 @@
+//! Shigthapul, a proved reader for scripts in the Boson language, for Rust.
+//!
+//! It takes a script's tokens and answers its tree, or refuses it with a number and a place. Each
+//! token is a word ([`Token`]), with EOF last and nowhere else. The tree is laid out in a pool of
+//! words that the caller lends, eight to a row; reading allocates nothing. After a refusal every
+//! word of the pool is zero. No input makes these functions panic.
+//!
+//! ```
+//! use shigthapul::{whole_script, Infix, Kind, Symbol, Token};
+//!
+//! # fn main() -> Result<(), shigthapul::Refusal> {
+//! // a + b * c
+//! let (plus, times) = (Token::Operator(Symbol::SPlus), Token::Operator(Symbol::SMul));
+//! let name = Token::Identifier;
+//! let tokens = [name, plus, name, times, name, Token::EOF].map(Token::word);
+//!
+//! let mut pool = [0; 8 * 100];
+//! let tree = whole_script(&tokens, &mut pool)?;
+//!
+//! let product = tree.of_kind(Kind::Infix).next().unwrap();
+//! assert_eq!(product.infix(), Some(Infix::Mul));
+//! assert_eq!(product.place(), 3);
+//! assert_eq!(tree.root().unwrap().kind(), Kind::Block);
+//! assert_eq!(tree.len(), 7);
+//! # Ok(())
+//! # }
+//! ```
+//!
+//! The proved code is a static library for x86-64, `libexports.a`; `build.rs` links it from the
+//! folder that `SHIGTHAPUL_LIB_DIR` names. What is proved is in the repository's `docs/CLAIMS.md`.
+//! This crate itself is not proved: it is tested.
+#![deny(missing_docs, unsafe_code)]
+
+#[macro_use]
+mod table;
+
+mod entries;
+mod files;
+mod kind;
+pub mod raw;
+mod refusal;
+mod text;
+mod token;
+mod tree;
+mod walk;
+
+pub use entries::{one_expression, one_statement, whole_script};
+pub use files::read_file;
+pub use kind::{Infix, Kind, Prefix, Suffix};
+pub use refusal::{Reason, Refusal};
+pub use text::{fold, text};
+pub use token::{Keyword, Symbol, Token};
+pub use tree::{Node, Row, Tree, GROUPED, ROW_WORDS};
+pub use walk::{List, Walk};
+
+/// The page on both bindings, whose Rust example is run as a test.
+#[cfg(doctest)]
+#[doc = include_str!("../../README.md")]
+pub struct Page;

@@ -1,0 +1,169 @@
+//! The six C functions as they are, over slices, and the only unsafe code of this crate.
+//!
+//! Each writes the four words of its answer to the front of `answer`, as far as that goes; words
+//! behind the fourth stay as they were. The functions of the crate's root are built on these.
+//!
+//! ```
+//! let mut pool = [7; 9];
+//! let mut answer = [9; 3];
+//! shigthapul::raw::whole_script(&[0x0700, 0x0B00], &mut pool, &mut answer);
+//! assert_eq!(answer, [1, 1, 0]); // refusal 1 at place 1
+//! assert_eq!(pool, [0; 9]);
+//! ```
+//!
+//! # Why the calls are sound
+//!
+//! - Every pointer comes from a slice and goes with that slice's own length. So it is not null, it
+//!   is aligned, and good for so many elements; where there are none it is not followed.
+//! - What is written comes from `&mut` slices, so that nothing else refers to it during the call.
+//! - The functions ask nothing else of a caller. For any words and any lengths they are proved to
+//!   stay inside what they are lent, and to return. They have no state, and keep no pointer.
+//!
+//! What is trusted: that the declarations below are those of the library. The tests call each one.
+#![allow(unsafe_code)]
+
+extern "C" {
+    fn shigthapul_one_expression(
+        tokens: *const u16,
+        tokens_len: usize,
+        pool: *mut u32,
+        pool_len: usize,
+        start: usize,
+        answer: *mut u64,
+        answer_len: usize,
+    );
+    fn shigthapul_one_statement(
+        tokens: *const u16,
+        tokens_len: usize,
+        pool: *mut u32,
+        pool_len: usize,
+        start: usize,
+        answer: *mut u64,
+        answer_len: usize,
+    );
+    fn shigthapul_whole_script(
+        tokens: *const u16,
+        tokens_len: usize,
+        pool: *mut u32,
+        pool_len: usize,
+        answer: *mut u64,
+        answer_len: usize,
+    );
+    fn shigthapul_read_file(
+        bytes: *const u8,
+        bytes_len: usize,
+        words: *mut u16,
+        words_len: usize,
+        answer: *mut u64,
+        answer_len: usize,
+    );
+    fn shigthapul_fold(
+        payload: *const u8,
+        payload_len: usize,
+        work: *mut u8,
+        work_len: usize,
+        answer: *mut u64,
+        answer_len: usize,
+    );
+    fn shigthapul_text(
+        payload: *const u8,
+        payload_len: usize,
+        work: *const u8,
+        work_len: usize,
+        answer: *mut u64,
+        answer_len: usize,
+    );
+}
+
+/// Reads one expression from a start place: 0, root, rows, place; or a refusal's number and place.
+pub fn one_expression(tokens: &[u16], pool: &mut [u32], start: usize, answer: &mut [u64]) {
+    // SAFETY: see the head of this module.
+    unsafe {
+        shigthapul_one_expression(
+            tokens.as_ptr(),
+            tokens.len(),
+            pool.as_mut_ptr(),
+            pool.len(),
+            start,
+            answer.as_mut_ptr(),
+            answer.len(),
+        )
+    }
+}
+
+/// Reads one statement from a start place: the same answer.
+pub fn one_statement(tokens: &[u16], pool: &mut [u32], start: usize, answer: &mut [u64]) {
+    // SAFETY: see the head of this module.
+    unsafe {
+        shigthapul_one_statement(
+            tokens.as_ptr(),
+            tokens.len(),
+            pool.as_mut_ptr(),
+            pool.len(),
+            start,
+            answer.as_mut_ptr(),
+            answer.len(),
+        )
+    }
+}
+
+/// Reads a whole script: the same answer.
+pub fn whole_script(tokens: &[u16], pool: &mut [u32], answer: &mut [u64]) {
+    // SAFETY: see the head of this module.
+    unsafe {
+        shigthapul_whole_script(
+            tokens.as_ptr(),
+            tokens.len(),
+            pool.as_mut_ptr(),
+            pool.len(),
+            answer.as_mut_ptr(),
+            answer.len(),
+        )
+    }
+}
+
+/// Reads a token file into words: 0 and the count of fields; or a refusal's number and place.
+pub fn read_file(bytes: &[u8], words: &mut [u16], answer: &mut [u64]) {
+    // SAFETY: see the head of this module.
+    unsafe {
+        shigthapul_read_file(
+            bytes.as_ptr(),
+            bytes.len(),
+            words.as_mut_ptr(),
+            words.len(),
+            answer.as_mut_ptr(),
+            answer.len(),
+        )
+    }
+}
+
+/// Folds a string's payload: 0 and the length of its text; or a refusal's number and place.
+pub fn fold(payload: &[u8], work: &mut [u8], answer: &mut [u64]) {
+    // SAFETY: see the head of this module.
+    unsafe {
+        shigthapul_fold(
+            payload.as_ptr(),
+            payload.len(),
+            work.as_mut_ptr(),
+            work.len(),
+            answer.as_mut_ptr(),
+            answer.len(),
+        )
+    }
+}
+
+/// Finds a string's text: 0, its length, and 1 where it is the front of `work`, 0 where it is the
+/// payload.
+pub fn text(payload: &[u8], work: &[u8], answer: &mut [u64]) {
+    // SAFETY: see the head of this module.
+    unsafe {
+        shigthapul_text(
+            payload.as_ptr(),
+            payload.len(),
+            work.as_ptr(),
+            work.len(),
+            answer.as_mut_ptr(),
+            answer.len(),
+        )
+    }
+}

@@ -1,0 +1,92 @@
+//! Refusals: why something was not read, and where.
+use std::error::Error;
+use std::fmt;
+
+table! {
+    /// Why something was refused, by number.
+    ///
+    /// ```
+    /// use shigthapul::Reason;
+    ///
+    /// assert_eq!(Reason::from_number(19), Some(Reason::ConstWithoutValue));
+    /// assert_eq!(Reason::ConstWithoutValue.text(), "const: no value");
+    /// assert_eq!(Reason::from_number(7), None);
+    /// ```
+    Reason: u32 {
+        BadArray = 1, "the array of tokens: its length, a bad word, EOF too early or missing";
+        TooDeep = 2, "nested too deep";
+        /// Also where a buffer of token words or of string text is too short.
+        NoRoom = 3, "no row or no room left";
+        BadStart = 4, "the start place lies outside the array";
+        BadField = 5, "the token file: a field is cut short, or has a bad tag or length";
+        TooLong = 6, "the token file: more than 60,000 bytes";
+        InvalidSyntax = 10, "a sign, a bracket or in is missing; one token in a group; an early end";
+        InvalidToken = 11, "no expression starts with this token; or an if without )";
+        InvalidSymbol = 12, "no expression starts with this operator";
+        NotImplemented = 13, "no expression starts with this keyword";
+        InvalidIdentifier = 14, "a name is missing";
+        AssertWithoutAction = 15, "assert: a semicolon in place of the comma";
+        AssertWithoutComma = 16, "assert: no comma";
+        FuncWithoutName = 17, "func: no name";
+        IfWithoutBody = 18, "if: no { behind the condition";
+        ConstWithoutValue = 19, "const: no value";
+        ExpectedEq = 20, "var, const: no =";
+        ExpectedColon = 21, "hash: no : behind a key";
+        NoParameters = 22, "lambda: no parameter";
+        ExpectedArrow = 23, "lambda: no =>";
+        HashNotTerminated = 24, "hash: not closed";
+        ArrayNotTerminated = 25, "array: not closed";
+        NotCallable = 26, "thread, async: not in front of a call";
+        TryWithoutCatch = 27, "try: no catch";
+        BreakWithoutSemicolon = 28, "break: no ;";
+        ContinueWithoutSemicolon = 29, "continue: no ;";
+    }
+}
+
+/// A refusal: its reason, and its place.
+///
+/// The place is that of a token, from 0; for [`Reason::BadField`] it is that of a field.
+///
+/// ```
+/// use shigthapul::{one_expression, Reason, Refusal, Symbol, Token};
+///
+/// let open = Token::Operator(Symbol::SLParen).word();
+/// let close = Token::Operator(Symbol::SRparen).word();
+/// let group = [open, Token::Identifier.word(), close, Token::EOF.word()];
+///
+/// let refusal = one_expression(&group, &mut [0; 64], 0).unwrap_err();
+/// assert_eq!(refusal, Refusal { reason: Reason::InvalidSyntax, place: 1 });
+/// assert_eq!(refusal.number(), 10);
+/// assert!(refusal.to_string().starts_with("refused 10 at 1: "));
+/// ```
+#[derive(Clone, Copy, Debug, PartialEq, Eq, Hash)]
+pub struct Refusal {
+    /// Why.
+    pub reason: Reason,
+    /// Where.
+    pub place: usize,
+}
+
+impl Refusal {
+    /// The number of the reason.
+    pub const fn number(self) -> u32 {
+        self.reason.number()
+    }
+
+    /// The refusal of an answer's words, if it is one.
+    pub(crate) fn check(answer: &[u64; 4]) -> Result<(), Refusal> {
+        if answer[0] == 0 {
+            return Ok(());
+        }
+        let reason = Reason::from_number(answer[0] as u32).expect("a number of the table");
+        Err(Refusal { reason, place: answer[1] as usize })
+    }
+}
+
+impl fmt::Display for Refusal {
+    fn fmt(&self, f: &mut fmt::Formatter<'_>) -> fmt::Result {
+        write!(f, "refused {} at {}: {}", self.number(), self.place, self.reason)
+    }
+}
+
+impl Error for Refusal {}

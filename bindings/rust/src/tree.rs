@@ -1,0 +1,316 @@
+//! The tree that an entry laid out in the pool: its rows, and the way from a row to its children.
+use crate::walk::{List, Walk};
+use crate::{Infix, Kind, Prefix, Suffix};
+use std::fmt;
+
+/// How many words of the pool a row takes.
+pub const ROW_WORDS: usize = 8;
+
+/// What is added to the mark of a row that stands in brackets.
+pub const GROUPED: u32 = 256;
+
+/// The flags in the marks of a bool, a call and a shell row.
+const TRUE: u32 = 1;
+const THREAD: u32 = 1;
+const ASYNC: u32 = 2;
+const RAW: u32 = 1;
+
+/// The words of a row. A reference is a row's number plus one, and 0 for none.
+///
+/// ```
+/// use shigthapul::{Kind, Row};
+///
+/// let row = Row::from_words([12, 0, 1, 1, 4, 0, 0, 0]).unwrap();
+/// assert_eq!((row.kind, row.place, row.children), (Kind::Infix, 1, [1, 4, 0, 0]));
+/// assert_eq!(row.words(), [12, 0, 1, 1, 4, 0, 0, 0]);
+/// assert_eq!(Row::from_words([0; 8]), None);
+/// ```
+#[derive(Clone, Copy, Debug, PartialEq, Eq, Hash)]
+pub struct Row {
+    /// What the row stands for.
+    pub kind: Kind,
+    /// An operator or flags, by the kind, and [`GROUPED`].
+    pub mark: u32,
+    /// The place of the token that the row stands for.
+    pub place: u32,
+    /// References of the children.
+    pub children: [u32; 4],
+    /// The reference of the next row in a list.
+    pub next: u32,
+}
+
+impl Row {
+    /// The row of eight words; none where the first is no kind.
+    pub fn from_words(words: [u32; ROW_WORDS]) -> Option<Row> {
+        let [kind, mark, place, c0, c1, c2, c3, next] = words;
+        let kind = Kind::from_number(kind)?;
+        Some(Row { kind, mark, place, children: [c0, c1, c2, c3], next })
+    }
+
+    /// The eight words of the row.
+    pub fn words(self) -> [u32; ROW_WORDS] {
+        let [c0, c1, c2, c3] = self.children;
+        [self.kind.number(), self.mark, self.place, c0, c1, c2, c3, self.next]
+    }
+}
+
+/// An accepted script, expression or statement: its tree in the lent pool.
+///
+/// ```
+/// use shigthapul::{one_expression, Kind};
+///
+/// // `f ( a , b )` and EOF
+/// let tokens = [0x0700, 0x0805, 0x0700, 0x080C, 0x0700, 0x0806, 0x0200];
+/// let mut pool = [0; 80];
+/// let tree = one_expression(&tokens, &mut pool, 0).unwrap();
+///
+/// let call = tree.root().unwrap();
+/// assert_eq!(call.kind(), Kind::Call);
+/// assert_eq!(call.child(0).unwrap().place(), 0);
+/// let arguments: Vec<usize> = call.list(1).map(|argument| argument.place()).collect();
+/// assert_eq!(arguments, [2, 4]);
+///
+/// assert_eq!(tree.len(), 4);
+/// assert_eq!(tree.of_kind(Kind::Identifier).count(), 3);
+/// ```
+#[derive(Clone, Copy, PartialEq, Eq)]
+pub struct Tree<'a> {
+    words: &'a [u32],
+    root: u32,
+    last_place: usize,
+}
+
+impl<'a> Tree<'a> {
+    /// The tree in the first `rows` rows of the pool.
+    pub(crate) fn new(pool: &'a [u32], root: u32, rows: usize, last_place: usize) -> Tree<'a> {
+        Tree { words: &pool[..ROW_WORDS * rows], root, last_place }
+    }
+
+    /// The root: a block, a statement or an expression. Only a lone Empty token has none.
+    pub fn root(self) -> Option<Node<'a>> {
+        self.node(self.root)
+    }
+
+    /// The place of the last token that was used.
+    pub fn last_place(self) -> usize {
+        self.last_place
+    }
+
+    /// How many rows the tree has.
+    pub fn len(self) -> usize {
+        self.words.len() / ROW_WORDS
+    }
+
+    /// Whether the tree has no row.
+    pub fn is_empty(self) -> bool {
+        self.words.is_empty()
+    }
+
+    /// The words of the rows, eight to a row.
+    pub fn words(self) -> &'a [u32] {
+        self.words
+    }
+
+    /// The node of a reference, if there is such a row.
+    pub fn node(self, reference: u32) -> Option<Node<'a>> {
+        let number = (reference as usize).checked_sub(1)?;
+        let words = self.words.chunks_exact(ROW_WORDS).nth(number)?;
+        let row = Row::from_words(words.try_into().ok()?)?;
+        Some(Node { tree: self, reference, row })
+    }
+
+    /// Every node in the order of the rows: parts come before wholes.
+    ///
+    /// ```
+    /// // `! a` and EOF
+    /// let mut pool = [0; 16];
+    /// let tree = shigthapul::one_expression(&[0x080E, 0x0700, 0x0200], &mut pool, 0).unwrap();
+    /// let lines: Vec<String> = tree.nodes().map(|node| node.to_string()).collect();
+    /// assert_eq!(lines, ["identifier at 1", "prefix ! at 0"]);
+    /// ```
+    pub fn nodes(self) -> impl Iterator<Item = Node<'a>> {
+        (1..=self.len() as u32).filter_map(move |reference| self.node(reference))
+    }
+
+    /// The nodes of a kind, in the order of the rows.
+    pub fn of_kind(self, kind: Kind) -> impl Iterator<Item = Node<'a>> {
+        self.nodes().filter(move |node| node.kind() == kind)
+    }
+
+    /// Every node with its depth, from the root down, a whole before its parts.
+    ///
+    /// A tree may be as deep as it has rows, and this takes no recursion.
+    ///
+    /// ```
+    /// // `a + b` and EOF
+    /// let mut pool = [0; 80];
+    /// let tokens = [0x0700, 0x0801, 0x0700, 0x0200];
+    /// let tree = shigthapul::one_expression(&tokens, &mut pool, 0).unwrap();
+    /// let lines: Vec<_> = tree.walk().map(|(depth, node)| format!("{depth} {node}")).collect();
+    /// assert_eq!(lines, ["0 infix + at 1", "1 identifier at 0", "1 identifier at 2"]);
+    /// ```
+    pub fn walk(self) -> Walk<'a> {
+        Walk::new(self.root())
+    }
+}
+
+impl fmt::Debug for Tree<'_> {
+    fn fmt(&self, f: &mut fmt::Formatter<'_>) -> fmt::Result {
+        f.debug_list().entries(self.nodes().map(|node| node.row)).finish()
+    }
+}
+
+/// A row of a tree, with the tree that its references belong to.
+///
+/// It is displayed in words: kind, operator or flags, place.
+///
+/// ```
+/// // `( thread f ( ) )` and EOF
+/// let tokens = [0x0805, 0x091A, 0x0700, 0x0805, 0x0806, 0x0806, 0x0200];
+/// let mut pool = [0; 80];
+/// let call = shigthapul::one_expression(&tokens, &mut pool, 0).unwrap().root().unwrap();
+/// assert!(call.is_thread() && call.is_grouped() && !call.is_async());
+/// assert_eq!(call.to_string(), "call thread grouped at 3");
+/// ```
+#[derive(Clone, Copy, PartialEq, Eq)]
+pub struct Node<'a> {
+    tree: Tree<'a>,
+    reference: u32,
+    row: Row,
+}
+
+impl<'a> Node<'a> {
+    /// The node's reference: its row's number plus one.
+    pub fn reference(self) -> u32 {
+        self.reference
+    }
+
+    /// The node's row.
+    pub fn row(self) -> Row {
+        self.row
+    }
+
+    /// What the node stands for.
+    pub fn kind(self) -> Kind {
+        self.row.kind
+    }
+
+    /// The place of the token that the node stands for.
+    pub fn place(self) -> usize {
+        self.row.place as usize
+    }
+
+    /// The child of a slot, 0 to 3, or the first where the slot has a list. [`Kind`] says which
+    /// child is where.
+    pub fn child(self, slot: usize) -> Option<Node<'a>> {
+        self.tree.node(*self.row.children.get(slot)?)
+    }
+
+    /// The node behind this one in its list.
+    pub fn next_in_list(self) -> Option<Node<'a>> {
+        self.tree.node(self.row.next)
+    }
+
+    /// The members of a slot, 0 to 3: none, one child, or a list.
+    ///
+    /// ```
+    /// // `[ a , b ]` and EOF
+    /// let tokens = [0x0822, 0x0700, 0x080C, 0x0700, 0x0823, 0x0200];
+    /// let mut pool = [0; 80];
+    /// let array = shigthapul::one_expression(&tokens, &mut pool, 0).unwrap().root().unwrap();
+    /// assert_eq!(array.list(0).count(), 2);
+    /// assert_eq!(array.list(1).count(), 0);
+    /// ```
+    pub fn list(self, slot: usize) -> List<'a> {
+        List::new(self.child(slot))
+    }
+
+    /// The members of all slots, one slot after the other.
+    pub fn children(self) -> impl Iterator<Item = Node<'a>> {
+        (0..self.row.children.len()).flat_map(move |slot| self.list(slot))
+    }
+
+    /// Whether the node stands in brackets.
+    pub fn is_grouped(self) -> bool {
+        self.row.mark & GROUPED != 0
+    }
+
+    /// The operator of an infix node.
+    pub fn infix(self) -> Option<Infix> {
+        self.mark_of(Kind::Infix).and_then(Infix::from_number)
+    }
+
+    /// The operator of a prefix node.
+    pub fn prefix(self) -> Option<Prefix> {
+        self.mark_of(Kind::Prefix).and_then(Prefix::from_number)
+    }
+
+    /// The operator of a suffix node.
+    pub fn suffix(self) -> Option<Suffix> {
+        self.mark_of(Kind::Suffix).and_then(Suffix::from_number)
+    }
+
+    /// Whether the node is the bool `true`.
+    pub fn is_true(self) -> bool {
+        self.has(Kind::Bool, TRUE)
+    }
+
+    /// Whether the node is a call that is started on a thread.
+    pub fn is_thread(self) -> bool {
+        self.has(Kind::Call, THREAD)
+    }
+
+    /// Whether the node is a call that is not waited for.
+    pub fn is_async(self) -> bool {
+        self.has(Kind::Call, ASYNC)
+    }
+
+    /// Whether the node is a raw shell expression.
+    pub fn is_raw(self) -> bool {
+        self.has(Kind::Shell, RAW)
+    }
+
+    /// The mark without the flag of brackets, where the node is of a kind.
+    fn mark_of(self, kind: Kind) -> Option<u32> {
+        (self.row.kind == kind).then_some(self.row.mark & !GROUPED)
+    }
+
+    /// Whether the node is of a kind and has a flag in its mark.
+    fn has(self, kind: Kind, flag: u32) -> bool {
+        self.mark_of(kind).map_or(false, |mark| mark & flag != 0)
+    }
+
+    /// The operator or the word of a bool, empty for other kinds.
+    fn sign(self) -> &'static str {
+        let of_bool =
+            self.mark_of(Kind::Bool).map(|_| if self.is_true() { "true" } else { "false" });
+        of_bool
+            .or_else(|| self.infix().map(Infix::text))
+            .or_else(|| self.prefix().map(Prefix::text))
+            .or_else(|| self.suffix().map(Suffix::text))
+            .unwrap_or("")
+    }
+}
+
+impl fmt::Display for Node<'_> {
+    fn fmt(&self, f: &mut fmt::Formatter<'_>) -> fmt::Result {
+        let flags = [
+            (true, self.sign()),
+            (self.is_thread(), "thread"),
+            (self.is_async(), "async"),
+            (self.is_raw(), "raw"),
+            (self.is_grouped(), "grouped"),
+        ];
+        write!(f, "{}", self.kind())?;
+        for (_, word) in flags.iter().filter(|(is, word)| *is && !word.is_empty()) {
+            write!(f, " {}", word)?;
+        }
+        write!(f, " at {}", self.place())
+    }
+}
+
+impl fmt::Debug for Node<'_> {
+    fn fmt(&self, f: &mut fmt::Formatter<'_>) -> fmt::Result {
+        self.row.fmt(f)
+    }
+}
