@@ -39,7 +39,8 @@ returns c =
     let second = third .before .before .before .before in
     let first = second .before .before .before .before in
     let a = first .before .before .before .args in
-    cc (stored (a .first) (a .second) (a .third) (a .fourth) (a .answer .now), first .put-word .ensures, second .put-word2 .ensures, third .put-word3 .ensures, fourth .put-word4 .ensures)
+    rw (fourth .put-word4 .ensures, third .put-word3 .ensures, second .put-word2 .ensures, first .put-word .ensures)
+    (stored (a .first) (a .second) (a .third) (a .fourth) (a .answer .now))
 
 pub put-spec : {M : Type 1} → statement M
 put-spec =

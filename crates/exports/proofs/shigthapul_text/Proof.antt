@@ -1,8 +1,8 @@
 -- `exports::shigthapul_text` meets its contract: the length of the text tells which buffer it is in.
 use Prim.Native.Nat.{ℕ, _<_}
-use mathlib.Core.Path.{_≡_, refl, _∙_}
+use mathlib.Core.Path.{_≡_, refl, ap, _∙_}
 use mathlib.Core.Bool.{Bool, true, false, not, cond}
-use mathlib.Core.List.{List, []}
+use mathlib.Core.List.{List, [], _∷_}
 use native.Mathlib.Omega.{arith}
 use borrow.Author.Needs.{needs}
 use borrow.Author.Tests.{eq-eqb, ne-eqb, leb-true}
@@ -13,6 +13,7 @@ use mir.Val.{boolByte}
 use Rattle.text.specs.Fold.{choose, has-pair, folded}
 use Rattle.text.specs.Entries.{text-of}
 use Rattle.text.proofs.Cases.{Told, same, less, told}
+use Rattle.exports.specs.Answers.{over, text-words}
 use Rattle.exports.proofs.shigthapul_text.Statement.{statement}
 use Rattle.exports.proofs.shigthapul_text.Tie as tie
 
@@ -34,6 +35,11 @@ which payload work = go (told payload)
         let s = shorter payload work h l in
         rw (ne-eqb (length (text-of payload work)) (length payload) (λ e. omega arith), h)
 
+-- the four words, from the text that was handed back
+words : (payload work text : List ℕ) → text ≡ text-of payload work
+    → 0 ∷ length text ∷ boolByte (not (eqb (length text) (length payload))) ∷ 0 ∷ [] ≡ text-words payload work
+words payload work text e = rw (e, which payload work)
+
 text-requires : tie.Need-text-requires
 text-requires c κs = search needs
 
@@ -51,7 +57,7 @@ returns c =
     let at-put = c .before .before in
     let called = at-put .before .before in
     let a = called .before .before .before .before .args in
-    at-put .put .ensures ∙ rw (called .text .ensures, which (a .payload .now) (a .work .now))
+    at-put .put .ensures ∙ ap (λ (ws : List ℕ). over ws (a .answer .now)) (words (a .payload .now) (a .work .now) _ (called .text .ensures))
 
 pub shigthapul-text-spec : {M : Type 1} → statement M
 shigthapul-text-spec =
