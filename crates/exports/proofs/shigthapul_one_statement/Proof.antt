@@ -1,0 +1,33 @@
+-- `exports::shigthapul_one_statement` meets its contract: the entry answers, and its answer is written.
+use mathlib.Core.Path.{_∙_}
+use borrow.Author.Needs.{needs}
+use Rattle.exports.proofs.shigthapul_one_statement.Statement.{statement}
+use Rattle.exports.proofs.shigthapul_one_statement.Tie as tie
+
+one-statement-requires : tie.Need-one-statement-requires
+one-statement-requires c κs = search needs
+
+put-answer-requires : tie.Need-put-answer-requires
+put-answer-requires c κs = search needs
+
+same-length : tie.Need-same-length
+same-length c = search needs
+
+same-length-2 : tie.Need-same-length-2
+same-length-2 c = search needs
+
+returns : tie.Need-returns
+returns c =
+    let at-put = c .before .before in
+    let entered = at-put .before .before .before .before .one-statement .ensures in
+    (at-put .put-answer .ensures ∙ rw (entered .answer), entered .left)
+
+pub shigthapul-one-statement-spec : {M : Type 1} → statement M
+shigthapul-one-statement-spec =
+    tie.close
+    (tie.spec
+    one-statement-requires
+    put-answer-requires
+    same-length
+    same-length-2
+    returns)

@@ -1,0 +1,33 @@
+-- `exports::shigthapul_whole_script` meets its contract: the entry answers, and its answer is written.
+use mathlib.Core.Path.{_∙_}
+use borrow.Author.Needs.{needs}
+use Rattle.exports.proofs.shigthapul_whole_script.Statement.{statement}
+use Rattle.exports.proofs.shigthapul_whole_script.Tie as tie
+
+whole-script-requires : tie.Need-whole-script-requires
+whole-script-requires c κs = search needs
+
+put-answer-requires : tie.Need-put-answer-requires
+put-answer-requires c κs = search needs
+
+same-length : tie.Need-same-length
+same-length c = search needs
+
+same-length-2 : tie.Need-same-length-2
+same-length-2 c = search needs
+
+returns : tie.Need-returns
+returns c =
+    let at-put = c .before .before in
+    let entered = at-put .before .before .before .before .whole-script .ensures in
+    (at-put .put-answer .ensures ∙ rw (entered .answer), entered .left)
+
+pub shigthapul-whole-script-spec : {M : Type 1} → statement M
+shigthapul-whole-script-spec =
+    tie.close
+    (tie.spec
+    whole-script-requires
+    put-answer-requires
+    same-length
+    same-length-2
+    returns)
