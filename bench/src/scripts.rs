@@ -189,19 +189,3 @@ impl Maker {
         self.put(&[ELSE]);
     }
 }
-
-#[cfg(test)]
-mod tests {
-    use super::*;
-
-    #[test]
-    fn scripts_have_their_size_and_end_in_eof() {
-        for kind in Kind::ALL {
-            for length in [1, 2, 3, 100, 32768] {
-                let words = script(kind, length, 0);
-                assert_eq!((words.len(), words[length - 1]), (length, EOF));
-                assert!(words[..length - 1].iter().all(|&word| is_valid(word) && word != EOF));
-            }
-        }
-    }
-}

@@ -54,6 +54,7 @@ pub fn print(samples: usize) {
 fn scripts(kind: Kind, size: usize) -> Vec<(Vec<u16>, usize)> {
     let made = |number| {
         let tokens = script(kind, size, number);
+        assert_eq!(tokens.len(), size);
         let rows = agree::rows_of(&tokens);
         (tokens, rows)
     };
