@@ -16,7 +16,8 @@ impl Parser {
 }
 ";
 
-fn main() {
+/// Public, as the bench builds the original by it too.
+pub fn main() {
     println!("cargo:rerun-if-changed=build.rs");
     println!("cargo:rerun-if-env-changed=BOSON_SRC");
     let given = env::var("BOSON_SRC").expect("BOSON_SRC names the folder with boson/src/parser");

@@ -1,0 +1,74 @@
+//! How long a reader takes for some scripts.
+use crate::clock;
+use crate::readers::{self, Reader};
+use std::time::Duration;
+
+/// A script, and how many words of the pool are lent for it.
+pub struct Case {
+    pub tokens: Vec<u16>,
+    pub words: usize,
+}
+
+/// A sample is as many passes over the scripts as take about so long.
+const SAMPLE: Duration = Duration::from_millis(4);
+
+/// Nanoseconds for one pass over the scripts by each reader: the best of some samples, taken by turns.
+pub fn best(readers: &[Reader], cases: &[Case], samples: usize) -> Vec<f64> {
+    let most = cases.iter().map(|case| case.words).max().unwrap_or(0);
+    let mut pool = vec![0; most];
+    let passes: Vec<usize> =
+        readers.iter().map(|&reader| passes_of_a_sample(reader, cases, &mut pool)).collect();
+    let mut best = vec![f64::INFINITY; readers.len()];
+    for _ in 0..samples {
+        for (which, &reader) in readers.iter().enumerate() {
+            let time = sample(reader, cases, &mut pool, passes[which]);
+            best[which] = best[which].min(time.as_nanos() as f64 / passes[which] as f64);
+        }
+    }
+    best
+}
+
+/// How many passes make a sample; those it takes to find out warm the reader up.
+fn passes_of_a_sample(reader: Reader, cases: &[Case], pool: &mut [u32]) -> usize {
+    let mut passes = 1;
+    while sample(reader, cases, pool, passes) < SAMPLE {
+        passes *= 2;
+    }
+    passes
+}
+
+/// The time of so many passes.
+fn sample(reader: Reader, cases: &[Case], pool: &mut [u32], passes: usize) -> Duration {
+    match reader {
+        Reader::Original => sample_of_original(cases, passes),
+        Reader::Ours => sample_of(readers::ours, cases, pool, passes),
+        Reader::Plain => sample_of(readers::plain, cases, pool, passes),
+    }
+}
+
+fn sample_of(
+    read: fn(&[u16], &mut [u32]) -> [u64; 4],
+    cases: &[Case],
+    pool: &mut [u32],
+    passes: usize,
+) -> Duration {
+    let start = clock::now();
+    for _ in 0..passes {
+        for case in cases {
+            assert_eq!(read(&case.tokens, &mut pool[..case.words])[0], 0);
+        }
+    }
+    clock::now() - start
+}
+
+/// The tokens are made before, and the trees dropped behind; neither is counted.
+fn sample_of_original(cases: &[Case], passes: usize) -> Duration {
+    let all = (0..passes).flat_map(|_| cases);
+    let mut parsers: Vec<_> = all.map(|case| readers::prepared(&case.tokens)).collect();
+    let mut trees = Vec::with_capacity(parsers.len());
+    let start = clock::now();
+    for parser in &mut parsers {
+        trees.push(readers::original(parser));
+    }
+    clock::now() - start
+}
