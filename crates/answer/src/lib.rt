@@ -1,5 +1,4 @@
 // What readers and entries answer, and what an entry does before and after reading.
-use rows::clear;
 use words::Checked;
 use words::Cursor;
 ghost use mathlib.Core.Path.{_≡_};
@@ -69,7 +68,7 @@ pub fn finish(pool: &mut [u32], r: Read) -> Answer
     match r {
         Read::Tree(k, h, d) => Answer::Accepted(h, k, d),
         Read::Refused(n, p) => {
-            clear(pool);
+            rows::clear(pool);
             Answer::Refused(n, p)
         }
     }
