@@ -1,8 +1,8 @@
 // Reads a token file on standard input as a whole script, and prints the answer and each row that it uses.
+use answer::Answer;
 use files::Fields;
 use libc::STDIN_FILENO;
 use libc::STDOUT_FILENO;
-use answer::Answer;
 
 // The bytes of the longest file and one more, the words of the most tokens, and the words of 2,000 rows.
 const BYTES: usize = 60001;

@@ -12,9 +12,9 @@ use Rattle.grammar.specs.Parsed.{Parsed, refused, read, Reader, Arm, _⇒_, mat
 use Rattle.grammar.specs.Expressions.{Rec, prefix-part, no-prefix}
 use Rattle.rows.specs.Rows.{marked, bit}
 use Rattle.rows.specs.declared.Flag.{Flag}
-use Rattle.words.specs.declared.tokens.Token.{Token}
-use Rattle.words.specs.Tokens.{word, token}
-use Rattle.words.proofs.Round.{word-token}
+use Rattle.tokens.specs.declared.Token.{Token}
+use Rattle.tokens.specs.Tokens.{word, token}
+use Rattle.tokens.proofs.Round.{word-token}
 use Rattle.answer.specs.declared.Read.the-variants as the
 use Rattle.parser.specs.Meets.{Ready, Stands, Meets, one}
 use Rattle.parser.proofs.Answers.{refuses, choose-false}

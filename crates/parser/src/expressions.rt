@@ -7,18 +7,18 @@ use super::part::leaf;
 use super::part::put_row;
 use answer::Read;
 use rows::Flag;
+use tokens::Keyword;
+use tokens::Symbol;
+use tokens::Token;
 use words::Cursor;
-use words::Keyword;
-use words::Symbol;
-use words::Token;
 ghost use mathlib.Core.Path.{_≡_};
 ghost use Prim.Native.Nat.{ℕ, _*_, _≤_, _<_};
 ghost use lib.ListN.{length};
 ghost use Rattle.grammar.specs.Words.{tok};
 ghost use Rattle.grammar.specs.Parsed.{turns};
 ghost use Rattle.grammar.specs.Expressions as spec;
-ghost use Rattle.words.specs.Tokens.{word};
-ghost use Rattle.words.specs.declared.tokens.Token.the-variants as token;
+ghost use Rattle.tokens.specs.Tokens.{word};
+ghost use Rattle.tokens.specs.declared.Token.the-variants as token;
 ghost use Rattle.rows.specs.Rows.{bit};
 ghost use Rattle.parser.specs.Meets.{Ready, one, many};
 ghost use Rattle.parser.specs.Contracts.{Fresh, Behind, Follows, Extends};
@@ -448,7 +448,7 @@ fn climb(
     let mut k = rows;
     let mut h = head;
     let mut d = c;
-    while words::goes_on(order, words::next(tokens, d)) {
+    while orders::goes_on(order, words::next(tokens, d)) {
         let r = operation(tokens, pool, first, k, h, words::iterate(tokens, d), less);
         let Read::Tree(m, g, e) = r else {
             return r;
@@ -507,7 +507,7 @@ fn infix_exp(
         first,
         rows,
         d,
-        words::order_of(t),
+        orders::order_of(t),
         false,
         less,
     );
@@ -520,7 +520,7 @@ fn infix_exp(
         k,
         e,
         INFIX,
-        words::infix_mark(t),
+        orders::infix_mark(t),
         c,
         head,
         h,

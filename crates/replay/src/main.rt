@@ -3,8 +3,8 @@ mod compare;
 mod stream;
 mod tally;
 
-use compare::is_recorded;
 use answer::Answer;
+use compare::is_recorded;
 use stream::Case;
 use stream::Next;
 use stream::Recorded;

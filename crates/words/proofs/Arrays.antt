@@ -13,8 +13,8 @@ use borrow.Author.Tests.{eqb-true, ltb-true, ltb-false, leb-true, not-true, eq-e
 use Rattle.grammar.specs.Words.{EOF, class, code, codes, valid, tok, step}
 use Rattle.grammar.specs.Parsed.{Check, met, failed, need, BadArray}
 use Rattle.grammar.specs.Script.{both, words-good, array-good, longest}
-use Rattle.words.specs.Tokens.{word, token}
-use Rattle.words.proofs.Round.{word-token}
+use Rattle.tokens.specs.Tokens.{word, token}
+use Rattle.tokens.proofs.Round.{word-token}
 use Rattle.words.proofs.Steps.{step-one}
 
 -- Whether a word may stand before the last.

@@ -1,6 +1,6 @@
 // The check of an array of token words.
-use crate::tokens::EOF;
-use crate::tokens::is_valid;
+use crate::places::EOF;
+use tokens::is_valid;
 ghost use mathlib.Core.Path.{_≡_};
 ghost use Rattle.grammar.specs.Script.{array-good};
 ghost use Rattle.words.specs.Array.{checked};

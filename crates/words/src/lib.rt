@@ -1,17 +1,9 @@
-// Token words as tokens, their orders, the cursor over an array of them, and the check of an array.
+// The cursor over an array of token words, and the check of an array.
 mod array;
-mod orders;
 mod places;
-mod symbols;
-mod tokens;
 
 pub use array::Checked;
 pub use array::check;
-pub use orders::goes_on;
-pub use orders::infix_mark;
-pub use orders::is_infix;
-pub use orders::is_suffix;
-pub use orders::order_of;
 pub use places::Cursor;
 pub use places::current;
 pub use places::current_is;
@@ -22,10 +14,3 @@ pub use places::next;
 pub use places::next_is;
 pub use places::next_keyword_is;
 pub use places::next_symbol_is;
-pub use symbols::Keyword;
-pub use symbols::Symbol;
-pub use tokens::Token;
-pub use tokens::class_of;
-pub use tokens::code_of;
-pub use tokens::token_of;
-pub use tokens::word_of;

@@ -36,11 +36,11 @@ use Rattle.parser.proofs.dots.dot_expression.Reads as dot-expression-re
 use Rattle.parser.proofs.expressions.entries.Reads as entries-reads
 use Rattle.parser.proofs.expressions.expression.Reads as expression-reads
 use Rattle.parser.proofs.part.first_of.Reads as first-of-reads
-use Rattle.words.proofs.goes_on.Reads as goes-on-reads
+use Rattle.orders.proofs.goes_on.Reads as goes-on-reads
 use Rattle.parser.proofs.expressions.hash.Reads as hash-reads
 use Rattle.parser.proofs.expressions.index.Reads as index-reads
 use Rattle.parser.proofs.expressions.infix_exp.Reads as infix-exp-reads
-use Rattle.words.proofs.infix_mark.Reads as infix-mark-reads
+use Rattle.orders.proofs.infix_mark.Reads as infix-mark-reads
 use Rattle.parser.proofs.expressions.item.Reads as item-reads
 use Rattle.words.proofs.iterate.Reads as iterate-reads
 use Rattle.rows.proofs.kind.Reads as kind-reads
@@ -53,7 +53,7 @@ use Rattle.rows.proofs.mark.Reads as mark-reads
 use Rattle.words.proofs.next.Reads as next-reads
 use Rattle.words.proofs.next_symbol_is.Reads as next-symbol-is-reads
 use Rattle.parser.proofs.expressions.operation.Reads as operation-reads
-use Rattle.words.proofs.order_of.Reads as order-of-reads
+use Rattle.orders.proofs.order_of.Reads as order-of-reads
 use Rattle.parser.proofs.expressions.pair.Reads as pair-reads
 use Rattle.parser.proofs.expressions.prefix_part.Reads as prefix-part-reads
 use Rattle.parser.proofs.expressions.prefix.Reads as prefix-reads

@@ -3,8 +3,8 @@ use mathlib.Core.Path.{refl, sym}
 use mathlib.Core.Bool.{not}
 use mathlib.Core.List.{[], _∷_}
 use borrow.Author.Tests.{not-true}
-use Rattle.words.proofs.Arms.{keyword-arm}
-use Rattle.words.proofs.Tests.{but}
+use Rattle.tokens.proofs.Arms.{keyword-arm}
+use Rattle.tokens.proofs.Tests.{but}
 use Rattle.parser.specs.Contracts.{further}
 use Rattle.parser.proofs.statements.goes_further.Statement.{statement}
 use Rattle.parser.proofs.statements.goes_further.Tie as tie

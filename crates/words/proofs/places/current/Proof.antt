@@ -1,7 +1,7 @@
 -- `words::current` meets its contract: the token of the word that was found. Assumes nothing.
 use mathlib.Core.Path.{ap, _∙_}
 use borrow.Author.Needs.{needs}
-use Rattle.words.specs.Tokens.{token}
+use Rattle.tokens.specs.Tokens.{token}
 use Rattle.words.proofs.places.current.Statement.{statement}
 use Rattle.words.proofs.places.current.Tie as tie
 

@@ -16,7 +16,7 @@ shared-slice-read-result c = search needs
 
 returns : tie.Need-returns
 unfolding tok
-returns c = any-default (now (c .before .before .args .tokens)) (c .before .before .args .at) 0 EOF (c .before .if1 .taken)
+returns c = any-default (now (c .before .before .args .tokens)) (c .before .before .args .c) 0 EOF (c .before .if1 .taken)
 
 returns-2 : tie.Need-returns-2
 unfolding tok

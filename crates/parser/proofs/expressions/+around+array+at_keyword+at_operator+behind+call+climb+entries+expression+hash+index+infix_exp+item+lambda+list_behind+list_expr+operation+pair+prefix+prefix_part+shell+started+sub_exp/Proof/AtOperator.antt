@@ -5,8 +5,8 @@ use native.Mathlib.Omega.{arith}
 use Rattle.grammar.specs.Words.{class}
 use Rattle.grammar.specs.Parsed.{match, choose}
 use Rattle.grammar.specs.Expressions.{prefix-part}
-use Rattle.words.proofs.Arms.{operator-arm}
-use Rattle.words.proofs.Tests.{but}
+use Rattle.tokens.proofs.Arms.{operator-arm}
+use Rattle.tokens.proofs.Tests.{but}
 use Rattle.parser.proofs.Matches.{no-start, unstarted}
 use borrow.Author.Needs.{needs}
 use Prim.Native.Nat.{ℕ}

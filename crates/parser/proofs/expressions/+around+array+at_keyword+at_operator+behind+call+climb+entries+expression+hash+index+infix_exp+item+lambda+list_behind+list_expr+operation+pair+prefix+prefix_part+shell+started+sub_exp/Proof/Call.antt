@@ -35,10 +35,11 @@ module _ (t : ℕ) where
   pub returns : lts.Need-returns cs (call-at t) call-reads.Post
   unfolding call
   returns c =
-      let w = within-step _ _ (c .before .before .before .before .iterate .ensures) (c .before .before .before .before .before .before .before .before .before .pre .1 .0 .within) in
-      (later refl (on-step _ _ (c .before .before .before .before .iterate .ensures)) (c .before .before .put-row .ensures (c .before .before .before .before .before .before .before .before .before .args .tokens .now) w .0),
-      λ from t zs left s e. by-eq (choose-true _ _ (sym (c .before .before .before .before .before .before .next-symbol-is .ensures) ∙ c .before .before .before .before .before .if1 .taken)) (rw (← (c .before .before .before .before .iterate .ensures))
-      (c .before .before .put-row .ensures (c .before .before .before .before .before .before .before .before .before .args .tokens .now) w .1 _ [] _ _ _ _ (stands-step _ _ (c .before .before .before .before .iterate .ensures) s) (record { few = tt; root = of-node; refs = (e, refl, refl, refl) }))))
+      let w = within-step _ _ (c .before .before .before .before .iterate .ensures) (c .before .before .before .before .before .before .before .before .before .pre .1 .0 .within) in (
+        later refl (on-step _ _ (c .before .before .before .before .iterate .ensures)) (c .before .before .put-row .ensures (c .before .before .before .before .before .before .before .before .before .args .tokens .now) w .0),
+        λ from t zs left s e. by-eq (choose-true _ _ (sym (c .before .before .before .before .before .before .next-symbol-is .ensures) ∙ c .before .before .before .before .before .if1 .taken)) (rw (← (c .before .before .before .before .iterate .ensures))
+            (c .before .before .put-row .ensures (c .before .before .before .before .before .before .before .before .before .args .tokens .now) w .1 _ [] _ _ _ _ (stands-step _ _ (c .before .before .before .before .iterate .ensures) s) (record { few = tt; root = of-node; refs = (e, refl, refl, refl) }))),
+      )
 
   pub list-behind-requires : lts.Need-list-behind-requires cs (call-at t) call-reads.Post
   list-behind-requires c κs = (falls _ _ _ _ _ _ _ (c .before .before .before .before .before .pre .0) (le-refl _) (lit< tt), c .before .before .before .before .before .pre .1)
@@ -69,8 +70,9 @@ module _ (t : ℕ) where
   unfolding call
   returns-3 c =
       let b = bounds (c .before .before .before .before .before .before .before .before .before .before .list-behind .ensures .0) (c .before .before .before .before .before .before .r .given .1) in
-      let w = within-step _ _ (c .before .before .before .before .iterate2 .ensures) (b .within) in
-      (later (c .before .before .before .before .before .before .before .before .before .before .list-behind .kept .1 .0) (le-trans (b .on) (on-step _ _ (c .before .before .before .before .iterate2 .ensures))) (c .before .before .put-row2 .ensures (c .before .before .before .before .before .before .before .before .before .before .before .before .before .before .before .before .args .tokens .now) w .0),
-      λ from t zs left s e. let q = taken (c .before .before .before .before .before .before .before .before .before .before .list-behind .ensures .1 _ _ _ _ s) (c .before .before .before .before .before .before .r .given .1) in
-      by-eq (choose-false _ _ (sym (c .before .before .before .before .before .before .before .before .before .before .before .before .before .next-symbol-is .ensures) ∙ c .before .before .before .before .before .before .before .before .before .before .before .before .if1 .left) ∙ then-read _ (q .eq)) (rw (← (c .before .before .before .before .iterate2 .ensures))
-      (c .before .before .put-row2 .ensures (c .before .before .before .before .before .before .before .before .before .before .before .before .before .before .before .before .args .tokens .now) w .1 _ [] _ _ _ _ (stands-step _ _ (c .before .before .before .before .iterate2 .ensures) (q .stands)) (record { few = tt; root = of-node; refs = (e, q .head, refl, refl) }))))
+      let w = within-step _ _ (c .before .before .before .before .iterate2 .ensures) (b .within) in (
+        later (c .before .before .before .before .before .before .before .before .before .before .list-behind .kept .1 .0) (le-trans (b .on) (on-step _ _ (c .before .before .before .before .iterate2 .ensures))) (c .before .before .put-row2 .ensures (c .before .before .before .before .before .before .before .before .before .before .before .before .before .before .before .before .args .tokens .now) w .0),
+        λ from t zs left s e. let q = taken (c .before .before .before .before .before .before .before .before .before .before .list-behind .ensures .1 _ _ _ _ s) (c .before .before .before .before .before .before .r .given .1) in
+            by-eq (choose-false _ _ (sym (c .before .before .before .before .before .before .before .before .before .before .before .before .before .next-symbol-is .ensures) ∙ c .before .before .before .before .before .before .before .before .before .before .before .before .if1 .left) ∙ then-read _ (q .eq)) (rw (← (c .before .before .before .before .iterate2 .ensures))
+            (c .before .before .put-row2 .ensures (c .before .before .before .before .before .before .before .before .before .before .before .before .before .before .before .before .args .tokens .now) w .1 _ [] _ _ _ _ (stands-step _ _ (c .before .before .before .before .iterate2 .ensures) (q .stands)) (record { few = tt; root = of-node; refs = (e, q .head, refl, refl) }))),
+      )

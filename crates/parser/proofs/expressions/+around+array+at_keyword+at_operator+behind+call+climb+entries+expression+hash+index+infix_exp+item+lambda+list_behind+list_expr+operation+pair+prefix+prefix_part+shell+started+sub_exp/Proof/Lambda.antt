@@ -72,9 +72,10 @@ module _ (t : ℕ) where
 
   pub behind-requires : lts.Need-behind-requires cs (lambda-at t) lambda-reads.Post
   behind-requires c κs =
-      let h = taken (c .before .before .before .before .before .before .before .before .before .before .list-expr .ensures) (c .before .before .before .before .before .before .r .given .1) in
-      (falls _ _ _ _ _ _ _ (c .before .before .before .before .before .before .before .before .before .before .before .before .before .before .before .before .before .before .pre .0) (le-trans (h .stands .on) (le-trans (on-step _ _ (c .before .before .iterate .ensures)) (on-step _ _ (c .before .iterate2 .ensures)))) (lit< tt),
-      (ready-step _ _ (c .before .iterate2 .ensures) (ready-step _ _ (c .before .before .iterate .ensures) (ready-same (c .before .before .before .before .before .before .before .before .before .before .before .before .before .before .before .before .before .before .pre .1) (c .before .before .before .before .before .before .before .before .before .before .list-expr .kept .1 .0) (h .stands .within))), front-le (h .stands .front)))
+      let h = taken (c .before .before .before .before .before .before .before .before .before .before .list-expr .ensures) (c .before .before .before .before .before .before .r .given .1) in (
+        falls _ _ _ _ _ _ _ (c .before .before .before .before .before .before .before .before .before .before .before .before .before .before .before .before .before .before .pre .0) (le-trans (h .stands .on) (le-trans (on-step _ _ (c .before .before .iterate .ensures)) (on-step _ _ (c .before .iterate2 .ensures)))) (lit< tt),
+        (ready-step _ _ (c .before .iterate2 .ensures) (ready-step _ _ (c .before .before .iterate .ensures) (ready-same (c .before .before .before .before .before .before .before .before .before .before .before .before .before .before .before .before .before .before .pre .1) (c .before .before .before .before .before .before .before .before .before .before .list-expr .kept .1 .0) (h .stands .within))), front-le (h .stands .front)),
+      )
 
   pub enum-known-q : lts.Need-enum-known-q cs (lambda-at t) lambda-reads.Post
   enum-known-q c = search needs

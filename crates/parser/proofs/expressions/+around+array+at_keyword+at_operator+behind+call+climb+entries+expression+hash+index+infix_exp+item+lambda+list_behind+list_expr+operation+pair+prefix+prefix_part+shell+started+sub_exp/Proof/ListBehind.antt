@@ -57,6 +57,7 @@ module _ (t : ℕ) where
 
   pub returns-2 : lts.Need-returns-2 cs (list-behind-at t) list-behind-reads.Post
   returns-2 c =
-      let h = taken (c .before .before .before .before .before .list-expr .ensures) (c .before .r .given .1) in
-      (bounded-tree (omega (arith, h .stands .front .fit, part-length (c .before .before .before .before .before .before .before .before .before .args .rows) (c .before .before .before .before .before .before .before .before .before .args .pool .now), c .before .before .before .before .before .before .before .before .before .pre .1 .1)) (h .stands .on) (h .stands .within),
-      λ from slots zs left s. back-read s (in-part (list-expr (c .before .before .before .before .before .before .before .before .before .args .tokens .now) (expression (c .before .before .before .before .before .before .before .before .before .args .tokens .now) (c .before .before .before .before .before .before .before .before .before .args .less)) (c .before .before .before .before .before .before .before .before .before .args .c)) s (c .before .before .before .before .before .list-expr .ensures)) (c .before .r .given .1))
+      let h = taken (c .before .before .before .before .before .list-expr .ensures) (c .before .r .given .1) in (
+        bounded-tree (omega (arith, h .stands .front .fit, part-length (c .before .before .before .before .before .before .before .before .before .args .rows) (c .before .before .before .before .before .before .before .before .before .args .pool .now), c .before .before .before .before .before .before .before .before .before .pre .1 .1)) (h .stands .on) (h .stands .within),
+        λ from slots zs left s. back-read s (in-part (list-expr (c .before .before .before .before .before .before .before .before .before .args .tokens .now) (expression (c .before .before .before .before .before .before .before .before .before .args .tokens .now) (c .before .before .before .before .before .before .before .before .before .args .less)) (c .before .before .before .before .before .before .before .before .before .args .c)) s (c .before .before .before .before .before .list-expr .ensures)) (c .before .r .given .1),
+      )

@@ -7,8 +7,8 @@ use native.Mathlib.Omega.{arith}
 use Rattle.grammar.specs.Words.{SIncr, SDecr, SLParen, SLBox, tok, codes}
 use Rattle.grammar.specs.Parsed.{match, choose}
 use Rattle.grammar.specs.Expressions.{Rec, operation, infix-expression, suffix-expression}
-use Rattle.words.proofs.Arms.{token-arm, operator-arm}
-use Rattle.words.proofs.Tests.{but}
+use Rattle.tokens.proofs.Arms.{token-arm, operator-arm}
+use Rattle.tokens.proofs.Tests.{but}
 use Rattle.answer.specs.declared.Read.{Read}
 use Rattle.parser.specs.Meets.{of-node}
 use Rattle.parser.specs.Contracts.{Follows}

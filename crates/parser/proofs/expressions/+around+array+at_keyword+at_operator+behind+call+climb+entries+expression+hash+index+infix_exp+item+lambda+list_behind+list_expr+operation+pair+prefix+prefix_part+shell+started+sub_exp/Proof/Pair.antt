@@ -59,9 +59,10 @@ module _ (t : ℕ) where
 
   pub behind-requires : lts.Need-behind-requires cs (pair-at t) pair-reads.Post
   behind-requires c κs =
-      let h = taken (c .before .before .before .before .before .before .before .before .before .before .expression .ensures) (c .before .before .before .before .before .before .r .given .1) in
-      (omega (arith, c .before .before .before .before .before .before .before .before .before .before .before .before .before .before .pre .0, h .stands .on, h .stands .within, moves-next SColon (c .before .before .before .before .before .before .before .before .before .before .before .before .before .before .pre .1 .sound) (h .stands .within) (sym (c .before .before .before .next-symbol-is .ensures) ∙ not-false _ (c .before .before .if1 .left)) refl, c .before .before .before .before .iterate .ensures, on-step _ _ (c .iterate2 .ensures)),
-      (ready-step _ _ (c .iterate2 .ensures) (ready-step _ _ (c .before .before .before .before .iterate .ensures) (ready-same (c .before .before .before .before .before .before .before .before .before .before .before .before .before .before .pre .1) (c .before .before .before .before .before .before .before .before .before .before .expression .kept .1 .0) (h .stands .within))), front-le (h .stands .front)))
+      let h = taken (c .before .before .before .before .before .before .before .before .before .before .expression .ensures) (c .before .before .before .before .before .before .r .given .1) in (
+        omega (arith, c .before .before .before .before .before .before .before .before .before .before .before .before .before .before .pre .0, h .stands .on, h .stands .within, moves-next SColon (c .before .before .before .before .before .before .before .before .before .before .before .before .before .before .pre .1 .sound) (h .stands .within) (sym (c .before .before .before .next-symbol-is .ensures) ∙ not-false _ (c .before .before .if1 .left)) refl, c .before .before .before .before .iterate .ensures, on-step _ _ (c .iterate2 .ensures)),
+        (ready-step _ _ (c .iterate2 .ensures) (ready-step _ _ (c .before .before .before .before .iterate .ensures) (ready-same (c .before .before .before .before .before .before .before .before .before .before .before .before .before .before .pre .1) (c .before .before .before .before .before .before .before .before .before .before .expression .kept .1 .0) (h .stands .within))), front-le (h .stands .front)),
+      )
 
   pub enum-known-q : lts.Need-enum-known-q cs (pair-at t) pair-reads.Post
   enum-known-q c = search needs

@@ -5,9 +5,9 @@ use mathlib.Core.List.{[], _∷_}
 use Rattle.grammar.specs.Words.{class, codes}
 use Rattle.grammar.specs.Parsed.{match, choose}
 use Rattle.grammar.specs.Expressions.{prefix-part}
-use Rattle.words.specs.Tokens.{word}
-use Rattle.words.proofs.Arms.{token-arm}
-use Rattle.words.proofs.Tests.{but}
+use Rattle.tokens.specs.Tokens.{word}
+use Rattle.tokens.proofs.Arms.{token-arm}
+use Rattle.tokens.proofs.Tests.{but}
 use Rattle.parser.proofs.Matches.{word-of, no-start, unstarted}
 use Rattle.parser.proofs.Moves.{falls, le-refl}
 use borrow.Author.Needs.{needs}

@@ -13,11 +13,11 @@ use Rattle.grammar.specs.Tree.{Tree, Trees}
 use Rattle.grammar.specs.Parsed.{refused, Reader, match, choose}
 use Rattle.grammar.specs.Expressions.{Rec}
 use Rattle.grammar.specs.Statements.{begun, alone, throw, kept}
-use Rattle.words.specs.Tokens.{word}
-use Rattle.words.specs.declared.symbols.Keyword.{Keyword as Key}
-use Rattle.words.specs.declared.tokens.Token.the-variants as token
-use Rattle.words.proofs.Arms.{keyword-arm}
-use Rattle.words.proofs.Tests.{but}
+use Rattle.tokens.specs.Tokens.{word}
+use Rattle.tokens.specs.declared.Keyword.{Keyword as Key}
+use Rattle.tokens.specs.declared.Token.the-variants as token
+use Rattle.tokens.proofs.Arms.{keyword-arm}
+use Rattle.tokens.proofs.Tests.{but}
 use Rattle.parser.specs.Contracts.{further, closed, around}
 use Rattle.parser.proofs.Answers.{by-eq, refuses, need-met, need-failed, sooner}
 use Rattle.parser.proofs.Moves.{falls, on-step, ready-step, small}

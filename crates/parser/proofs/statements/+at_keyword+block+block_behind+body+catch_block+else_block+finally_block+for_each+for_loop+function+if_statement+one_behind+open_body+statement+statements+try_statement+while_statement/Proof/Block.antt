@@ -65,9 +65,10 @@ module _ (t : ℕ) where
 
   pub statements-requires : lts.Need-statements-requires cs (block-at t) block-reads.Post
   statements-requires c κs =
-      let h = taken (c .before .before .before .before .before .before .before .statement .ensures) (c .before .before .before .r .given .1) in
-      (falls _ _ _ _ _ _ _ (c .before .before .before .before .before .before .before .before .before .before .before .before .before .before .before .pre .0) (le-trans (on-step _ _ (c .before .before .before .before .before .before .before .before .before .before .before .before .iterate .ensures)) (le-trans (on-step _ _ (c .before .before .before .before .before .before .before .before .before .before .before .iterate2 .ensures)) (le-trans (h .stands .on) (on-step _ _ (c .before .iterate3 .ensures))))) (lit< tt),
-      (ready-step _ _ (c .before .iterate3 .ensures) (ready-same (c .before .before .before .before .before .before .before .before .before .before .before .before .before .before .before .pre .1) (c .before .before .before .before .before .before .before .statement .kept .1 .0) (h .stands .within)), front-le (h .stands .front)))
+      let h = taken (c .before .before .before .before .before .before .before .statement .ensures) (c .before .before .before .r .given .1) in (
+        falls _ _ _ _ _ _ _ (c .before .before .before .before .before .before .before .before .before .before .before .before .before .before .before .pre .0) (le-trans (on-step _ _ (c .before .before .before .before .before .before .before .before .before .before .before .before .iterate .ensures)) (le-trans (on-step _ _ (c .before .before .before .before .before .before .before .before .before .before .before .iterate2 .ensures)) (le-trans (h .stands .on) (on-step _ _ (c .before .iterate3 .ensures))))) (lit< tt),
+        (ready-step _ _ (c .before .iterate3 .ensures) (ready-same (c .before .before .before .before .before .before .before .before .before .before .before .before .before .before .before .pre .1) (c .before .before .before .before .before .before .before .statement .kept .1 .0) (h .stands .within)), front-le (h .stands .front)),
+      )
 
   pub enum-known-q : lts.Need-enum-known-q cs (block-at t) block-reads.Post
   enum-known-q c = search needs

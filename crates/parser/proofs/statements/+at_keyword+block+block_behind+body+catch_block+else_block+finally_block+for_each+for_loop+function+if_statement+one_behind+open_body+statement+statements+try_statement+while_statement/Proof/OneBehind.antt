@@ -58,7 +58,10 @@ module _ (t : ℕ) where
 
   pub returns-2 : lts.Need-returns-2 cs (one-behind-at t) one-behind-reads.Post
   returns-2 c =
-      let h = taken (c .before .before .before .before .before .statement .ensures) (c .before .r .given .1) in
-      (record { begun = not-at-end _ _ _ _ (h .eq) },
-      (bounded-tree (omega (arith, h .stands .front .fit, part-length (c .before .before .before .before .before .before .before .before .before .args .rows) (c .before .before .before .before .before .before .before .before .before .args .pool .now), c .before .before .before .before .before .before .before .before .before .pre .1 .1)) (h .stands .on) (h .stands .within),
-      λ from slots zs left s. back-read s (in-part (statement (c .before .before .before .before .before .before .before .before .before .args .tokens .now) (c .before .before .before .before .before .before .before .before .before .args .allow) (c .before .before .before .before .before .before .before .before .before .args .c)) s (c .before .before .before .before .before .statement .ensures)) (c .before .r .given .1)))
+      let h = taken (c .before .before .before .before .before .statement .ensures) (c .before .r .given .1) in (
+        record { begun = not-at-end _ _ _ _ (h .eq) },
+        (
+          bounded-tree (omega (arith, h .stands .front .fit, part-length (c .before .before .before .before .before .before .before .before .before .args .rows) (c .before .before .before .before .before .before .before .before .before .args .pool .now), c .before .before .before .before .before .before .before .before .before .pre .1 .1)) (h .stands .on) (h .stands .within),
+          λ from slots zs left s. back-read s (in-part (statement (c .before .before .before .before .before .before .before .before .before .args .tokens .now) (c .before .before .before .before .before .before .before .before .before .args .allow) (c .before .before .before .before .before .before .before .before .before .args .c)) s (c .before .before .before .before .before .statement .ensures)) (c .before .r .given .1),
+        ),
+      )

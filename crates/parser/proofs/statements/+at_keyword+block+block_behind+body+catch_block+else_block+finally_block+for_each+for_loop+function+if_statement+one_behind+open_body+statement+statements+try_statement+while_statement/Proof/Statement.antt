@@ -8,9 +8,9 @@ use lib.Dec.{eqb}
 use borrow.Author.Tests.{not-true, eq-eqb}
 use Rattle.grammar.specs.Words.{Empty, is, codes}
 use Rattle.grammar.specs.Statements.{statement, level}
-use Rattle.words.specs.Tokens.{word}
-use Rattle.words.proofs.Arms.{token-arm}
-use Rattle.words.proofs.Tests.{but}
+use Rattle.tokens.specs.Tokens.{word}
+use Rattle.tokens.proofs.Arms.{token-arm}
+use Rattle.tokens.proofs.Tests.{but}
 use Rattle.parser.proofs.Answers.{by-eq, refuses, choose-true, choose-false, read-none}
 use Rattle.parser.proofs.Moves.{small}
 use Rattle.parser.proofs.Matches.{word-of}

@@ -1,0 +1,176 @@
+// The orders and the marks of operators, and whether an expression goes on.
+use tokens::Symbol;
+use tokens::Token;
+use tokens::code_of;
+use tokens::word_of;
+ghost use mathlib.Core.Path.{_≡_};
+ghost use mathlib.Core.Bool.{_||_};
+ghost use Prim.Native.Nat.{_-_};
+ghost use lib.Dec.{eqb, ltb};
+ghost use Rattle.grammar.specs.Words.{SIncr, SDecr, SLParen, SLBox, order, infix-of, goes-on};
+ghost use Rattle.tokens.specs.Tokens.{word};
+
+// The mark of each infix operator, by its code; 0 for the other operators.
+const MARKS: [u32; 41] = [
+    0, // SInvalid
+    0, // SPlus
+    1, // SMinus
+    2, // SMul
+    3, // SDiv
+    0, // SLParen
+    0, // SRparen
+    13, // SLt
+    11, // SGt
+    12, // SLte
+    10, // SGte
+    0, // SSemiColon
+    0, // SComma
+    4, // SMod
+    0, // SExcl
+    7, // SEq
+    8, // SEeq
+    9, // SNe
+    0, // SLBrace
+    0, // SRBrace
+    5, // SAnd
+    6, // SOr
+    20, // SAndEq
+    21, // SOrEq
+    0, // SNeg
+    15, // SLAnd
+    14, // SLOr
+    16, // SPlusEq
+    17, // SMinusEq
+    0, // SIncr
+    0, // SDecr
+    18, // SMulEq
+    19, // SDivEq
+    22, // SModEq
+    0, // SLBox
+    0, // SRBox
+    0, // SImpl
+    0, // SColon
+    0, // SDot
+    0, // SResolve
+    0, // SDollar
+];
+
+// The order of a token, 0 for the lowest: get_eval_order.
+pub fn order_of(t: Token) -> usize
+    ensures { λ r. ⌜ r ≡ order (word t) ⌝ }
+{
+    match t {
+        Token::Operator(s) => match s {
+            Symbol::SEq
+            | Symbol::SOrEq
+            | Symbol::SAndEq
+            | Symbol::SPlusEq
+            | Symbol::SMinusEq
+            | Symbol::SMulEq
+            | Symbol::SDivEq
+            | Symbol::SModEq => 1,
+            Symbol::SLOr => 2,
+            Symbol::SLAnd => 3,
+            Symbol::SOr => 4,
+            Symbol::SAnd => 5,
+            Symbol::SEeq | Symbol::SNe => 6,
+            Symbol::SGt | Symbol::SLt | Symbol::SLte | Symbol::SGte => 7,
+            Symbol::SPlus | Symbol::SMinus => 8,
+            Symbol::SMul | Symbol::SDiv | Symbol::SMod => 9,
+            Symbol::SNeg | Symbol::SExcl => 10,
+            Symbol::SIncr | Symbol::SDecr => 11,
+            Symbol::SLParen => 12,
+            Symbol::SLBox => 13,
+            Symbol::SDot => 14,
+            _ => 0,
+        },
+        _ => 0,
+    }
+}
+
+// Whether a token is one of the 23 infix operators: has_infix.
+pub fn is_infix(t: Token) -> bool
+    ensures { λ r. ⌜ r ≡ ltb 0 (infix-of (word t)) ⌝ }
+{
+    match t {
+        Token::Operator(s) => match s {
+            Symbol::SPlus
+            | Symbol::SMinus
+            | Symbol::SMul
+            | Symbol::SDiv
+            | Symbol::SMod
+            | Symbol::SAnd
+            | Symbol::SOr
+            | Symbol::SEq
+            | Symbol::SEeq
+            | Symbol::SNe
+            | Symbol::SGte
+            | Symbol::SGt
+            | Symbol::SLte
+            | Symbol::SLt
+            | Symbol::SPlusEq
+            | Symbol::SMinusEq
+            | Symbol::SMulEq
+            | Symbol::SDivEq
+            | Symbol::SModEq
+            | Symbol::SAndEq
+            | Symbol::SOrEq
+            | Symbol::SLOr
+            | Symbol::SLAnd => true,
+            _ => false,
+        },
+        _ => false,
+    }
+}
+
+// The mark of an infix operator, 0 for any other token: parse_infix_expression.
+pub fn infix_mark(t: Token) -> u32
+    ensures { λ r. ⌜ r ≡ infix-of (word t) - 1 ⌝ }
+{
+    match t {
+        Token::Operator(_) => {
+            let code = code_of(word_of(t)) as usize;
+            MARKS[code]
+        }
+        _ => 0,
+    }
+}
+
+// Whether a token is one of two operators.
+fn is_either(t: Token, first: Symbol, second: Symbol) -> bool
+    ensures { λ r. ⌜ r ≡ (eqb (word t) (word (Token.Operator first)) || eqb (word t) (word (Token.Operator second))) ⌝ }
+{
+    let word = word_of(t);
+    word == word_of(Token::Operator(first)) || word == word_of(Token::Operator(second))
+}
+
+// Whether a token is one of the two suffix operators: has_suffix.
+pub fn is_suffix(t: Token) -> bool
+    ensures { λ r. ⌜ r ≡ (eqb (word t) SIncr || eqb (word t) SDecr) ⌝ }
+{
+    is_either(t, Symbol::SIncr, Symbol::SDecr)
+}
+
+// Whether a token opens a call or an index.
+fn opens(t: Token) -> bool
+    ensures { λ r. ⌜ r ≡ (eqb (word t) SLParen || eqb (word t) SLBox) ⌝ }
+{
+    is_either(t, Symbol::SLParen, Symbol::SLBox)
+}
+
+// Whether the loop of parse_expression goes on above an order, where the token is next.
+// A semicolon has the lowest order, so it needs no test of its own.
+pub fn goes_on(order: usize, t: Token) -> bool
+    ensures { λ r. ⌜ r ≡ goes-on order (word t) ⌝ }
+{
+    if order_of(t) <= order {
+        return false;
+    }
+    if is_infix(t) {
+        return true;
+    }
+    if is_suffix(t) {
+        return true;
+    }
+    opens(t)
+}
