@@ -3,11 +3,11 @@ use Prim.Native.Nat.{ℕ, zero, suc, _+_, _*_, _<_}
 use native.Mathlib.Nat.{div-add-mod', le-of-suc-le-suc, not-suc-le-zero}
 use native.Mathlib.Omega.{arith}
 use mathlib.Core.Path.{_≡_, refl, sym, ap, _∙_}
-use mathlib.Core.Bool.{Bool, true, false, _||_}
+use mathlib.Core.Bool.{Bool, true, false}
 use mathlib.Core.List.{List, [], _∷_, map}
-use lib.ListN.{length, getD, List·getD-eq-default, List·getD-map}
+use lib.ListN.{length, getD, List·getD-eq-default}
 use lib.Dec.{eqb, ltb}
-use borrow.Author.Tests.{eqb-true, ltb-true, ltb-false, ne-eqb}
+use borrow.Author.Tests.{eqb-true, ltb-true, ltb-false}
 use Rattle.grammar.specs.Words as g
 use Rattle.tokens.specs.declared.Symbol.the-variants.{SInvalid}
 use Rattle.tokens.specs.declared.Keyword.the-variants.{KInvalid}

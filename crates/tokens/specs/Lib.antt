@@ -1,3 +1,3 @@
--- The words and the codes that the contracts say, on top of the definition of the language.
+-- What the contracts say on top of the definition of the language.
 pub mod Symbols
 pub mod Tokens

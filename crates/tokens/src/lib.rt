@@ -1,14 +1,14 @@
-// The tokens of a script.
+// The tokens of a script, and what they carry.
 mod codes;
-mod words;
+mod word;
 
-pub use words::class_of;
-pub use words::code_of;
-pub use words::is_valid;
-pub use words::token_of;
-pub use words::word_of;
+pub use word::class_of;
+pub use word::code_of;
+pub use word::is_valid;
+pub use word::token_of;
+pub use word::word_of;
 
-// The symbol that an operator carries: SymbolKind.
+// The symbol that an operator carries, in the order of the codes: SymbolKind.
 pub enum Symbol {
     SInvalid,
     SPlus,
@@ -53,7 +53,7 @@ pub enum Symbol {
     SDollar,
 }
 
-// The symbol that a keyword carries: KeywordKind.
+// The symbol that a keyword carries, in the order of the codes: KeywordKind.
 pub enum Keyword {
     KInvalid,
     KIf,

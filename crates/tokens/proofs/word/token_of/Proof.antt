@@ -10,8 +10,8 @@ use Rattle.tokens.specs.declared.Token.the-variants.{Operator, Keyword}
 use Rattle.tokens.specs.Symbols.{symbol-at, keyword-at}
 use Rattle.tokens.specs.Tokens.{token}
 use Rattle.tokens.proofs.Round.{count, entry, few-classes, bad-token, token-operator, token-keyword, token-plain}
-use Rattle.tokens.proofs.words.token_of.Statement.{statement}
-use Rattle.tokens.proofs.words.token_of.Tie as tie
+use Rattle.tokens.proofs.word.token_of.Statement.{statement}
+use Rattle.tokens.proofs.word.token_of.Tie as tie
 
 -- A number is none of those from 1 to another.
 abbrev None-to : ℕ → ℕ → Type 0

@@ -5,8 +5,8 @@ use lib.ListN.{List·getD-eq-default}
 use borrow.Author.Needs.{needs}
 use borrow.Author.Tests.{le-ltb}
 use Rattle.grammar.specs.Words.{class, code, codes, valid}
-use Rattle.tokens.proofs.words.is_valid.Statement.{statement}
-use Rattle.tokens.proofs.words.is_valid.Tie as tie
+use Rattle.tokens.proofs.word.is_valid.Statement.{statement}
+use Rattle.tokens.proofs.word.is_valid.Tie as tie
 
 class-of-requires : tie.Need-class-of-requires
 class-of-requires c κs = search needs

@@ -2,8 +2,8 @@
 use Prim.Native.Nat.{_+_}
 use mathlib.Core.Path.{ap}
 use borrow.Author.Needs.{needs}
-use Rattle.tokens.proofs.words.word_of.Statement.{statement}
-use Rattle.tokens.proofs.words.word_of.Tie as tie
+use Rattle.tokens.proofs.word.word_of.Statement.{statement}
+use Rattle.tokens.proofs.word.word_of.Tie as tie
 
 pub word-of-spec : {M : Type 1} → statement M
 word-of-spec =
