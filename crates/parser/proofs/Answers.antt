@@ -60,6 +60,22 @@ pub by-eq : {A : Type 0} {slot : A → Trees} {ts : List ℕ} {from : ℕ} {P Q 
     → Meets slot ts from Q ss first r xs ys → Meets slot ts from P ss first r xs ys
 by-eq e m = rw e m
 
+-- A reader that begins with another.
+pub record Starts {A B : Type 0} (X : Parsed B) (P : Parsed A) : Type 0 where
+  pub rest : A × ℕ × ℕ → Parsed B
+  pub eq : X ≡ (P >>= rest)
+
+-- It passes the other's refusal on.
+pub pass-on : {A B : Type 0} {slot : A → Trees} {slot′ : B → Trees} {ts : List ℕ} {from : ℕ} {X : Parsed B} {P : Parsed A} {ss : List Trees} {first : ℕ} {r : Read} {xs ys : List ℕ} {n p : ℕ}
+    {ts′ : List ℕ} {from′ : ℕ} {ss′ : List Trees} {first′ : ℕ} {xs′ ys′ : List ℕ} → Starts X P
+    → Meets slot ts from P ss first r xs ys → r ≡ the.Refused n p → Meets slot′ ts′ from′ X ss′ first′ r xs′ ys′
+pass-on s m e = by-eq (s .eq) (pass (s .rest) m e)
+
+-- It goes on from what the other reads.
+pub goes : {A B : Type 0} {X : Parsed B} {P : Parsed A} {a : A} {at left : ℕ} (s : Starts X P) → P ≡ read a at left → X ≡ s .rest (a, at, left)
+unfolding _>>=_
+goes s e = s .eq ∙ rw e
+
 -- A refusal of its own.
 pub refuses : {A : Type 0} {slot : A → Trees} {ts : List ℕ} {from : ℕ} {ss : List Trees} {first : ℕ} {xs ys : List ℕ} (P : Parsed A) (n p : ℕ)
     → P ≡ refused n p → Meets slot ts from P ss first (the.Refused n p) xs ys

@@ -1,13 +1,18 @@
 -- `try_statement` meets its contract: a block, what is caught, the block for it, and the block of a finally or none.
 use lib.Dec.{lit<}
-use mathlib.Core.Path.{sym, _∙_}
-use mathlib.Core.List.{[]}
+use mathlib.Core.Path.{_≡_, sym, _∙_}
+use mathlib.Core.List.{List, []}
 use Prim.Native.Nat.{ℕ}
 use native.Mathlib.Omega.{arith}
-use Rattle.grammar.specs.Expressions.{expression}
-use Rattle.grammar.specs.Statements.{statement, block, try}
+use Rattle.grammar.specs.Words.{KCatch}
+use Rattle.grammar.specs.Tree.{Tree, Trees}
+use Rattle.grammar.specs.Tree as tree
+use Rattle.grammar.specs.Parsed.{read, Reader, build, TryWithoutCatch}
+use Rattle.grammar.specs.Expressions.{Rec, expression}
+use Rattle.grammar.specs.Statements.{statement, block, finally, try}
 use Rattle.parser.specs.Meets.{of-node}
-use Rattle.parser.proofs.Answers.{at-once, taken, pass, by-eq, then-read}
+use Rattle.parser.specs.Contracts.{behind-sign, braced}
+use Rattle.parser.proofs.Answers.{at-once, taken, by-eq, Starts, goes, pass-on}
 use Rattle.parser.proofs.Bodies.{sign-then, braced-then}
 use Rattle.parser.proofs.Moves.{falls, fits-same, front-le, le-refl, ready-same, small}
 use borrow.Author.Needs.{needs}
@@ -18,6 +23,32 @@ use Rattle.parser.proofs.part.put_row.Reads as put-row-reads
 use Rattle.parser.proofs.statements.try_statement.Reads as try-statement-reads
 use Rattle.parser.proofs.statements.+at_keyword+block+block_behind+body+catch_block+else_block+finally_block+for_each+for_loop+function+if_statement+one_behind+open_body+statement+statements+try_statement+while_statement.Lts-try_statement as lts
 use Rattle.parser.proofs.statements.+at_keyword+block+block_behind+body+catch_block+else_block+finally_block+for_each+for_loop+function+if_statement+one_behind+open_body+statement+statements+try_statement+while_statement.Proof.Measures.{try-statement-at, catch-block-below, finally-block-below}
+
+-- The definition, one reading after another.
+module _ (ts : List ℕ) (expr : Rec) (stmt : Reader Trees) (start room : ℕ) where
+  unfoldable first : Starts (try ts expr stmt start room) (braced ts (block ts expr stmt) start room)
+  unfolding try
+  first = record { rest = _; eq = sym (braced-then ts _ _ _ (block ts expr stmt)) }
+
+  module _ {body : Tree} {at left : ℕ} (e : braced ts (block ts expr stmt) start room ≡ read body at left) where
+    unfoldable second : Starts (try ts expr stmt start room) (behind-sign ts expr KCatch TryWithoutCatch at left)
+    unfolding first
+    second = record { rest = _; eq = goes first e ∙ sym (sign-then ts _ _ _ expr _ _) }
+
+    module _ {exception : Tree} {at′ left′ : ℕ} (e′ : behind-sign ts expr KCatch TryWithoutCatch at left ≡ read exception at′ left′) where
+      unfoldable third : Starts (try ts expr stmt start room) (braced ts (block ts expr stmt) at′ left′)
+      unfolding second
+      third = record { rest = _; eq = goes second e′ ∙ sym (braced-then ts _ _ _ (block ts expr stmt)) }
+
+      module _ {catch : Tree} {at″ left″ : ℕ} (e″ : braced ts (block ts expr stmt) at′ left′ ≡ read catch at″ left″) where
+        unfoldable fourth : Starts (try ts expr stmt start room) (finally ts expr stmt at″ left″)
+        unfolding third
+        fourth = record { rest = _; eq = goes third e″ }
+
+        ended : {final : Trees} {at‴ left‴ : ℕ} → finally ts expr stmt at″ left″ ≡ read final at‴ left‴
+            → try ts expr stmt start room ≡ build (tree.try start body exception catch final) at‴ left‴
+        unfolding fourth
+        ended f = goes fourth f
 
 module _ (t : ℕ) where
   abbrev cs : lts.Claims
@@ -36,8 +67,7 @@ module _ (t : ℕ) where
   same-length c = c .before .before .before .before .catch-block .kept .1 .0
 
   pub returns : lts.Need-returns cs (try-statement-at t) try-statement-reads.Post
-  unfolding try
-  returns c = by-eq (sym (braced-then (c .before .before .before .before .before .before .before .before .args .tokens .now) _ _ _ (block (c .before .before .before .before .before .before .before .before .args .tokens .now) (expression (c .before .before .before .before .before .before .before .before .args .tokens .now) (c .before .before .before .before .before .before .before .before .args .less)) (statement (c .before .before .before .before .before .before .before .before .args .tokens .now) (c .before .before .before .before .before .before .before .before .args .less))))) (pass _ (c .before .before .before .before .catch-block .ensures .1 _ [] _ _ (at-once _ _ (c .before .before .before .before .before .before .before .before .pre .1 .within))) (c .enum-told .given .1))
+  returns c = pass-on (first (c .before .before .before .before .before .before .before .before .args .tokens .now) (expression (c .before .before .before .before .before .before .before .before .args .tokens .now) (c .before .before .before .before .before .before .before .before .args .less)) (statement (c .before .before .before .before .before .before .before .before .args .tokens .now) (c .before .before .before .before .before .before .before .before .args .less)) _ _) (c .before .before .before .before .catch-block .ensures .1 _ [] _ _ (at-once _ _ (c .before .before .before .before .before .before .before .before .pre .1 .within))) (c .enum-told .given .1)
 
   pub behind-sign-requires : lts.Need-behind-sign-requires cs (try-statement-at t) try-statement-reads.Post
   behind-sign-requires c κs = let h = taken (c .before .before .before .before .before .before .catch-block .ensures .1 _ [] _ _ (at-once _ _ (c .before .before .before .before .before .before .before .before .before .before .pre .1 .within))) (c .before .before .r0 .given .1) in (ready-same (c .before .before .before .before .before .before .before .before .before .before .pre .1) (c .before .before .before .before .before .before .catch-block .kept .1 .0) (h .stands .within), front-le (h .stands .front))
@@ -52,8 +82,7 @@ module _ (t : ℕ) where
   same-length-2 c = c .before .before .before .before .behind-sign .kept .1 .0 ∙ c .before .before .before .before .before .before .before .before .before .before .before .catch-block .kept .1 .0
 
   pub returns-2 : lts.Need-returns-2 cs (try-statement-at t) try-statement-reads.Post
-  unfolding try
-  returns-2 c = let h = taken (c .before .before .before .before .before .before .before .before .before .before .before .catch-block .ensures .1 _ [] _ _ (at-once _ _ (c .before .before .before .before .before .before .before .before .before .before .before .before .before .before .before .pre .1 .within))) (c .before .before .before .before .before .before .before .r0 .given .1) in by-eq (sym (braced-then (c .before .before .before .before .before .before .before .before .before .before .before .before .before .before .before .args .tokens .now) _ _ _ (block (c .before .before .before .before .before .before .before .before .before .before .before .before .before .before .before .args .tokens .now) (expression (c .before .before .before .before .before .before .before .before .before .before .before .before .before .before .before .args .tokens .now) (c .before .before .before .before .before .before .before .before .before .before .before .before .before .before .before .args .less)) (statement (c .before .before .before .before .before .before .before .before .before .before .before .before .before .before .before .args .tokens .now) (c .before .before .before .before .before .before .before .before .before .before .before .before .before .before .before .args .less)))) ∙ then-read _ (h .eq) ∙ sym (sign-then (c .before .before .before .before .before .before .before .before .before .before .before .before .before .before .before .args .tokens .now) _ _ _ (expression (c .before .before .before .before .before .before .before .before .before .before .before .before .before .before .before .args .tokens .now) (c .before .before .before .before .before .before .before .before .before .before .before .before .before .before .before .args .less)) _ _)) (pass _ (c .before .before .before .before .behind-sign .ensures .1 _ _ _ _ (h .stands)) (c .enum-told2 .given .1))
+  returns-2 c = let h = taken (c .before .before .before .before .before .before .before .before .before .before .before .catch-block .ensures .1 _ [] _ _ (at-once _ _ (c .before .before .before .before .before .before .before .before .before .before .before .before .before .before .before .pre .1 .within))) (c .before .before .before .before .before .before .before .r0 .given .1) in pass-on (second (c .before .before .before .before .before .before .before .before .before .before .before .before .before .before .before .args .tokens .now) (expression (c .before .before .before .before .before .before .before .before .before .before .before .before .before .before .before .args .tokens .now) (c .before .before .before .before .before .before .before .before .before .before .before .before .before .before .before .args .less)) (statement (c .before .before .before .before .before .before .before .before .before .before .before .before .before .before .before .args .tokens .now) (c .before .before .before .before .before .before .before .before .before .before .before .before .before .before .before .args .less)) _ _ (h .eq)) (c .before .before .before .before .behind-sign .ensures .1 _ _ _ _ (h .stands)) (c .enum-told2 .given .1)
 
   pub catch-block-requires-2 : lts.Need-catch-block-requires-2 cs (try-statement-at t) try-statement-reads.Post
   catch-block-requires-2 c κs = let h = taken (c .before .before .before .before .before .before .before .before .before .before .before .before .before .catch-block .ensures .1 _ [] _ _ (at-once _ _ (c .before .before .before .before .before .before .before .before .before .before .before .before .before .before .before .before .before .pre .1 .within))) (c .before .before .before .before .before .before .before .before .before .r0 .given .1) in let q = taken (c .before .before .before .before .before .before .behind-sign .ensures .1 _ _ _ _ (h .stands)) (c .before .before .r1 .given .1) in (falls _ _ _ _ _ _ _ (c .before .before .before .before .before .before .before .before .before .before .before .before .before .before .before .before .before .pre .0) (q .stands .on) (lit< tt), (ready-same (c .before .before .before .before .before .before .before .before .before .before .before .before .before .before .before .before .before .pre .1) (c .before .before .before .before .before .before .behind-sign .kept .1 .0 ∙ c .before .before .before .before .before .before .before .before .before .before .before .before .before .catch-block .kept .1 .0) (q .stands .within), front-le (q .stands .front)))
@@ -68,8 +97,7 @@ module _ (t : ℕ) where
   same-length-3 c = c .before .before .before .before .catch-block2 .kept .1 .0 ∙ c .before .before .before .before .before .before .before .before .before .before .before .behind-sign .kept .1 .0 ∙ c .before .before .before .before .before .before .before .before .before .before .before .before .before .before .before .before .before .before .catch-block .kept .1 .0
 
   pub returns-3 : lts.Need-returns-3 cs (try-statement-at t) try-statement-reads.Post
-  unfolding try
-  returns-3 c = let h = taken (c .before .before .before .before .before .before .before .before .before .before .before .before .before .before .before .before .before .before .catch-block .ensures .1 _ [] _ _ (at-once _ _ (c .before .before .before .before .before .before .before .before .before .before .before .before .before .before .before .before .before .before .before .before .before .before .pre .1 .within))) (c .before .before .before .before .before .before .before .before .before .before .before .before .before .before .r0 .given .1) in let q = taken (c .before .before .before .before .before .before .before .before .before .before .before .behind-sign .ensures .1 _ _ _ _ (h .stands)) (c .before .before .before .before .before .before .before .r1 .given .1) in by-eq (sym (braced-then (c .before .before .before .before .before .before .before .before .before .before .before .before .before .before .before .before .before .before .before .before .before .before .args .tokens .now) _ _ _ (block (c .before .before .before .before .before .before .before .before .before .before .before .before .before .before .before .before .before .before .before .before .before .before .args .tokens .now) (expression (c .before .before .before .before .before .before .before .before .before .before .before .before .before .before .before .before .before .before .before .before .before .before .args .tokens .now) (c .before .before .before .before .before .before .before .before .before .before .before .before .before .before .before .before .before .before .before .before .before .before .args .less)) (statement (c .before .before .before .before .before .before .before .before .before .before .before .before .before .before .before .before .before .before .before .before .before .before .args .tokens .now) (c .before .before .before .before .before .before .before .before .before .before .before .before .before .before .before .before .before .before .before .before .before .before .args .less)))) ∙ then-read _ (h .eq) ∙ sym (sign-then (c .before .before .before .before .before .before .before .before .before .before .before .before .before .before .before .before .before .before .before .before .before .before .args .tokens .now) _ _ _ (expression (c .before .before .before .before .before .before .before .before .before .before .before .before .before .before .before .before .before .before .before .before .before .before .args .tokens .now) (c .before .before .before .before .before .before .before .before .before .before .before .before .before .before .before .before .before .before .before .before .before .before .args .less)) _ _) ∙ then-read _ (q .eq) ∙ sym (braced-then (c .before .before .before .before .before .before .before .before .before .before .before .before .before .before .before .before .before .before .before .before .before .before .args .tokens .now) _ _ _ (block (c .before .before .before .before .before .before .before .before .before .before .before .before .before .before .before .before .before .before .before .before .before .before .args .tokens .now) (expression (c .before .before .before .before .before .before .before .before .before .before .before .before .before .before .before .before .before .before .before .before .before .before .args .tokens .now) (c .before .before .before .before .before .before .before .before .before .before .before .before .before .before .before .before .before .before .before .before .before .before .args .less)) (statement (c .before .before .before .before .before .before .before .before .before .before .before .before .before .before .before .before .before .before .before .before .before .before .args .tokens .now) (c .before .before .before .before .before .before .before .before .before .before .before .before .before .before .before .before .before .before .before .before .before .before .args .less))))) (pass _ (c .before .before .before .before .catch-block2 .ensures .1 _ _ _ _ (q .stands)) (c .enum-told3 .given .1))
+  returns-3 c = let h = taken (c .before .before .before .before .before .before .before .before .before .before .before .before .before .before .before .before .before .before .catch-block .ensures .1 _ [] _ _ (at-once _ _ (c .before .before .before .before .before .before .before .before .before .before .before .before .before .before .before .before .before .before .before .before .before .before .pre .1 .within))) (c .before .before .before .before .before .before .before .before .before .before .before .before .before .before .r0 .given .1) in let q = taken (c .before .before .before .before .before .before .before .before .before .before .before .behind-sign .ensures .1 _ _ _ _ (h .stands)) (c .before .before .before .before .before .before .before .r1 .given .1) in pass-on (third (c .before .before .before .before .before .before .before .before .before .before .before .before .before .before .before .before .before .before .before .before .before .before .args .tokens .now) (expression (c .before .before .before .before .before .before .before .before .before .before .before .before .before .before .before .before .before .before .before .before .before .before .args .tokens .now) (c .before .before .before .before .before .before .before .before .before .before .before .before .before .before .before .before .before .before .before .before .before .before .args .less)) (statement (c .before .before .before .before .before .before .before .before .before .before .before .before .before .before .before .before .before .before .before .before .before .before .args .tokens .now) (c .before .before .before .before .before .before .before .before .before .before .before .before .before .before .before .before .before .before .before .before .before .before .args .less)) _ _ (h .eq) (q .eq)) (c .before .before .before .before .catch-block2 .ensures .1 _ _ _ _ (q .stands)) (c .enum-told3 .given .1)
 
   pub finally-block-requires : lts.Need-finally-block-requires cs (try-statement-at t) try-statement-reads.Post
   finally-block-requires c κs =
@@ -88,8 +116,7 @@ module _ (t : ℕ) where
   same-length-4 c = c .before .before .before .before .finally-block .kept .1 .0 ∙ c .before .before .before .before .before .before .before .before .before .before .before .catch-block2 .kept .1 .0 ∙ c .before .before .before .before .before .before .before .before .before .before .before .before .before .before .before .before .before .before .behind-sign .kept .1 .0 ∙ c .before .before .before .before .before .before .before .before .before .before .before .before .before .before .before .before .before .before .before .before .before .before .before .before .before .catch-block .kept .1 .0
 
   pub returns-4 : lts.Need-returns-4 cs (try-statement-at t) try-statement-reads.Post
-  unfolding try
-  returns-4 c = let h = taken (c .before .before .before .before .before .before .before .before .before .before .before .before .before .before .before .before .before .before .before .before .before .before .before .before .before .catch-block .ensures .1 _ [] _ _ (at-once _ _ (c .before .before .before .before .before .before .before .before .before .before .before .before .before .before .before .before .before .before .before .before .before .before .before .before .before .before .before .before .before .pre .1 .within))) (c .before .before .before .before .before .before .before .before .before .before .before .before .before .before .before .before .before .before .before .before .before .r0 .given .1) in let q = taken (c .before .before .before .before .before .before .before .before .before .before .before .before .before .before .before .before .before .before .behind-sign .ensures .1 _ _ _ _ (h .stands)) (c .before .before .before .before .before .before .before .before .before .before .before .before .before .before .r1 .given .1) in let v = taken (c .before .before .before .before .before .before .before .before .before .before .before .catch-block2 .ensures .1 _ _ _ _ (q .stands)) (c .before .before .before .before .before .before .before .r2 .given .1) in by-eq (sym (braced-then (c .before .before .before .before .before .before .before .before .before .before .before .before .before .before .before .before .before .before .before .before .before .before .before .before .before .before .before .before .before .args .tokens .now) _ _ _ (block (c .before .before .before .before .before .before .before .before .before .before .before .before .before .before .before .before .before .before .before .before .before .before .before .before .before .before .before .before .before .args .tokens .now) (expression (c .before .before .before .before .before .before .before .before .before .before .before .before .before .before .before .before .before .before .before .before .before .before .before .before .before .before .before .before .before .args .tokens .now) (c .before .before .before .before .before .before .before .before .before .before .before .before .before .before .before .before .before .before .before .before .before .before .before .before .before .before .before .before .before .args .less)) (statement (c .before .before .before .before .before .before .before .before .before .before .before .before .before .before .before .before .before .before .before .before .before .before .before .before .before .before .before .before .before .args .tokens .now) (c .before .before .before .before .before .before .before .before .before .before .before .before .before .before .before .before .before .before .before .before .before .before .before .before .before .before .before .before .before .args .less)))) ∙ then-read _ (h .eq) ∙ sym (sign-then (c .before .before .before .before .before .before .before .before .before .before .before .before .before .before .before .before .before .before .before .before .before .before .before .before .before .before .before .before .before .args .tokens .now) _ _ _ (expression (c .before .before .before .before .before .before .before .before .before .before .before .before .before .before .before .before .before .before .before .before .before .before .before .before .before .before .before .before .before .args .tokens .now) (c .before .before .before .before .before .before .before .before .before .before .before .before .before .before .before .before .before .before .before .before .before .before .before .before .before .before .before .before .before .args .less)) _ _) ∙ then-read _ (q .eq) ∙ sym (braced-then (c .before .before .before .before .before .before .before .before .before .before .before .before .before .before .before .before .before .before .before .before .before .before .before .before .before .before .before .before .before .args .tokens .now) _ _ _ (block (c .before .before .before .before .before .before .before .before .before .before .before .before .before .before .before .before .before .before .before .before .before .before .before .before .before .before .before .before .before .args .tokens .now) (expression (c .before .before .before .before .before .before .before .before .before .before .before .before .before .before .before .before .before .before .before .before .before .before .before .before .before .before .before .before .before .args .tokens .now) (c .before .before .before .before .before .before .before .before .before .before .before .before .before .before .before .before .before .before .before .before .before .before .before .before .before .before .before .before .before .args .less)) (statement (c .before .before .before .before .before .before .before .before .before .before .before .before .before .before .before .before .before .before .before .before .before .before .before .before .before .before .before .before .before .args .tokens .now) (c .before .before .before .before .before .before .before .before .before .before .before .before .before .before .before .before .before .before .before .before .before .before .before .before .before .before .before .before .before .args .less)))) ∙ then-read _ (v .eq)) (pass _ (c .before .before .before .before .finally-block .ensures .1 _ _ _ _ (v .stands)) (c .enum-told4 .given .1))
+  returns-4 c = let h = taken (c .before .before .before .before .before .before .before .before .before .before .before .before .before .before .before .before .before .before .before .before .before .before .before .before .before .catch-block .ensures .1 _ [] _ _ (at-once _ _ (c .before .before .before .before .before .before .before .before .before .before .before .before .before .before .before .before .before .before .before .before .before .before .before .before .before .before .before .before .before .pre .1 .within))) (c .before .before .before .before .before .before .before .before .before .before .before .before .before .before .before .before .before .before .before .before .before .r0 .given .1) in let q = taken (c .before .before .before .before .before .before .before .before .before .before .before .before .before .before .before .before .before .before .behind-sign .ensures .1 _ _ _ _ (h .stands)) (c .before .before .before .before .before .before .before .before .before .before .before .before .before .before .r1 .given .1) in let v = taken (c .before .before .before .before .before .before .before .before .before .before .before .catch-block2 .ensures .1 _ _ _ _ (q .stands)) (c .before .before .before .before .before .before .before .r2 .given .1) in pass-on (fourth (c .before .before .before .before .before .before .before .before .before .before .before .before .before .before .before .before .before .before .before .before .before .before .before .before .before .before .before .before .before .args .tokens .now) (expression (c .before .before .before .before .before .before .before .before .before .before .before .before .before .before .before .before .before .before .before .before .before .before .before .before .before .before .before .before .before .args .tokens .now) (c .before .before .before .before .before .before .before .before .before .before .before .before .before .before .before .before .before .before .before .before .before .before .before .before .before .before .before .before .before .args .less)) (statement (c .before .before .before .before .before .before .before .before .before .before .before .before .before .before .before .before .before .before .before .before .before .before .before .before .before .before .before .before .before .args .tokens .now) (c .before .before .before .before .before .before .before .before .before .before .before .before .before .before .before .before .before .before .before .before .before .before .before .before .before .before .before .before .before .args .less)) _ _ (h .eq) (q .eq) (v .eq)) (c .before .before .before .before .finally-block .ensures .1 _ _ _ _ (v .stands)) (c .enum-told4 .given .1)
 
   pub put-row-requires : lts.Need-put-row-requires cs (try-statement-at t) try-statement-reads.Post
   put-row-requires c κs = (fits-same _ _ _ (c .before .before .before .before .before .before .before .before .before .before .before .before .before .before .before .before .before .before .before .before .before .before .before .before .before .before .before .before .before .before .before .pre .1 .fits) (c .before .before .before .before .before .before .finally-block .kept .1 .0 ∙ c .before .before .before .before .before .before .before .before .before .before .before .before .before .catch-block2 .kept .1 .0 ∙ c .before .before .before .before .before .before .before .before .before .before .before .before .before .before .before .before .before .before .before .before .behind-sign .kept .1 .0 ∙ c .before .before .before .before .before .before .before .before .before .before .before .before .before .before .before .before .before .before .before .before .before .before .before .before .before .before .before .catch-block .kept .1 .0), small (c .before .before .before .before .before .before .before .before .before .before .before .before .before .before .before .before .before .before .before .before .before .before .before .before .before .before .before .before .before .before .before .pre .1))
@@ -98,11 +125,10 @@ module _ (t : ℕ) where
   same-length-5 c = c .before .before .put-row .kept .0 ∙ c .before .before .before .before .before .before .before .before .before .finally-block .kept .1 .0 ∙ c .before .before .before .before .before .before .before .before .before .before .before .before .before .before .before .before .catch-block2 .kept .1 .0 ∙ c .before .before .before .before .before .before .before .before .before .before .before .before .before .before .before .before .before .before .before .before .before .before .before .behind-sign .kept .1 .0 ∙ c .before .before .before .before .before .before .before .before .before .before .before .before .before .before .before .before .before .before .before .before .before .before .before .before .before .before .before .before .before .before .catch-block .kept .1 .0
 
   pub returns-5 : lts.Need-returns-5 cs (try-statement-at t) try-statement-reads.Post
-  unfolding try
   returns-5 c =
       let h = taken (c .before .before .before .before .before .before .before .before .before .before .before .before .before .before .before .before .before .before .before .before .before .before .before .before .before .before .before .before .before .before .catch-block .ensures .1 _ [] _ _ (at-once _ _ (c .before .before .before .before .before .before .before .before .before .before .before .before .before .before .before .before .before .before .before .before .before .before .before .before .before .before .before .before .before .before .before .before .before .before .pre .1 .within))) (c .before .before .before .before .before .before .before .before .before .before .before .before .before .before .before .before .before .before .before .before .before .before .before .before .before .before .r0 .given .1) in
       let q = taken (c .before .before .before .before .before .before .before .before .before .before .before .before .before .before .before .before .before .before .before .before .before .before .before .behind-sign .ensures .1 _ _ _ _ (h .stands)) (c .before .before .before .before .before .before .before .before .before .before .before .before .before .before .before .before .before .before .before .r1 .given .1) in
       let v = taken (c .before .before .before .before .before .before .before .before .before .before .before .before .before .before .before .before .catch-block2 .ensures .1 _ _ _ _ (q .stands)) (c .before .before .before .before .before .before .before .before .before .before .before .before .r2 .given .1) in
       let w = taken (c .before .before .before .before .before .before .before .before .before .finally-block .ensures .1 _ _ _ _ (v .stands)) (c .before .before .before .before .before .r3 .given .1) in
-      by-eq (sym (braced-then (c .before .before .before .before .before .before .before .before .before .before .before .before .before .before .before .before .before .before .before .before .before .before .before .before .before .before .before .before .before .before .before .before .before .before .args .tokens .now) _ _ _ (block (c .before .before .before .before .before .before .before .before .before .before .before .before .before .before .before .before .before .before .before .before .before .before .before .before .before .before .before .before .before .before .before .before .before .before .args .tokens .now) (expression (c .before .before .before .before .before .before .before .before .before .before .before .before .before .before .before .before .before .before .before .before .before .before .before .before .before .before .before .before .before .before .before .before .before .before .args .tokens .now) (c .before .before .before .before .before .before .before .before .before .before .before .before .before .before .before .before .before .before .before .before .before .before .before .before .before .before .before .before .before .before .before .before .before .before .args .less)) (statement (c .before .before .before .before .before .before .before .before .before .before .before .before .before .before .before .before .before .before .before .before .before .before .before .before .before .before .before .before .before .before .before .before .before .before .args .tokens .now) (c .before .before .before .before .before .before .before .before .before .before .before .before .before .before .before .before .before .before .before .before .before .before .before .before .before .before .before .before .before .before .before .before .before .before .args .less)))) ∙ then-read _ (h .eq) ∙ sym (sign-then (c .before .before .before .before .before .before .before .before .before .before .before .before .before .before .before .before .before .before .before .before .before .before .before .before .before .before .before .before .before .before .before .before .before .before .args .tokens .now) _ _ _ (expression (c .before .before .before .before .before .before .before .before .before .before .before .before .before .before .before .before .before .before .before .before .before .before .before .before .before .before .before .before .before .before .before .before .before .before .args .tokens .now) (c .before .before .before .before .before .before .before .before .before .before .before .before .before .before .before .before .before .before .before .before .before .before .before .before .before .before .before .before .before .before .before .before .before .before .args .less)) _ _) ∙ then-read _ (q .eq) ∙ sym (braced-then (c .before .before .before .before .before .before .before .before .before .before .before .before .before .before .before .before .before .before .before .before .before .before .before .before .before .before .before .before .before .before .before .before .before .before .args .tokens .now) _ _ _ (block (c .before .before .before .before .before .before .before .before .before .before .before .before .before .before .before .before .before .before .before .before .before .before .before .before .before .before .before .before .before .before .before .before .before .before .args .tokens .now) (expression (c .before .before .before .before .before .before .before .before .before .before .before .before .before .before .before .before .before .before .before .before .before .before .before .before .before .before .before .before .before .before .before .before .before .before .args .tokens .now) (c .before .before .before .before .before .before .before .before .before .before .before .before .before .before .before .before .before .before .before .before .before .before .before .before .before .before .before .before .before .before .before .before .before .before .args .less)) (statement (c .before .before .before .before .before .before .before .before .before .before .before .before .before .before .before .before .before .before .before .before .before .before .before .before .before .before .before .before .before .before .before .before .before .before .args .tokens .now) (c .before .before .before .before .before .before .before .before .before .before .before .before .before .before .before .before .before .before .before .before .before .before .before .before .before .before .before .before .before .before .before .before .before .before .args .less)))) ∙ then-read _ (v .eq) ∙ then-read _ (w .eq))
+      by-eq (ended (c .before .before .before .before .before .before .before .before .before .before .before .before .before .before .before .before .before .before .before .before .before .before .before .before .before .before .before .before .before .before .before .before .before .before .args .tokens .now) (expression (c .before .before .before .before .before .before .before .before .before .before .before .before .before .before .before .before .before .before .before .before .before .before .before .before .before .before .before .before .before .before .before .before .before .before .args .tokens .now) (c .before .before .before .before .before .before .before .before .before .before .before .before .before .before .before .before .before .before .before .before .before .before .before .before .before .before .before .before .before .before .before .before .before .before .args .less)) (statement (c .before .before .before .before .before .before .before .before .before .before .before .before .before .before .before .before .before .before .before .before .before .before .before .before .before .before .before .before .before .before .before .before .before .before .args .tokens .now) (c .before .before .before .before .before .before .before .before .before .before .before .before .before .before .before .before .before .before .before .before .before .before .before .before .before .before .before .before .before .before .before .before .before .before .args .less)) _ _ (h .eq) (q .eq) (v .eq) (w .eq))
       (c .before .before .put-row .ensures (c .before .before .before .before .before .before .before .before .before .before .before .before .before .before .before .before .before .before .before .before .before .before .before .before .before .before .before .before .before .before .before .before .before .before .args .tokens .now) (w .stands .within) .1 _ [] _ _ _ _ (w .stands) (record { few = tt; root = of-node; refs = (h .head, q .head, v .head, w .head) }))
