@@ -65,6 +65,13 @@ pub record Starts {A B : Type 0} (X : Parsed B) (P : Parsed A) : Type 0 where
   pub rest : A × ℕ × ℕ → Parsed B
   pub eq : X ≡ (P >>= rest)
 
+-- The other may begin at a place that is the same, and something that comes to nothing may stand before it.
+abbrev pub starts-at : {A B : Type 0} (P : ℕ → Parsed A) (rest : A × ℕ × ℕ → Parsed B) {k d : ℕ} → d ≡ k → Starts (P k >>= rest) (P d)
+starts-at P rest i = record { rest = rest; eq = ap (λ (j : ℕ). P j >>= rest) (sym i) }
+
+abbrev pub starts-after : {A B : Type 0} {X Y : Parsed B} {P : Parsed A} → X ≡ Y → Starts Y P → Starts X P
+starts-after e s = record { rest = s .rest; eq = e ∙ s .eq }
+
 -- It passes the other's refusal on.
 pub pass-on : {A B : Type 0} {slot : A → Trees} {slot′ : B → Trees} {ts : List ℕ} {from : ℕ} {X : Parsed B} {P : Parsed A} {ss : List Trees} {first : ℕ} {r : Read} {xs ys : List ℕ} {n p : ℕ}
     {ts′ : List ℕ} {from′ : ℕ} {ss′ : List Trees} {first′ : ℕ} {xs′ ys′ : List ℕ} → Starts X P

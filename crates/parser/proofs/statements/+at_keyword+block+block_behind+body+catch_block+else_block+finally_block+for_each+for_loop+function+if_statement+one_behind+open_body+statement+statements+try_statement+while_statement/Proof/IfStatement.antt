@@ -1,14 +1,19 @@
 -- `if_statement` meets its contract: the condition in brackets, the body behind it, and the block of an else or none.
 use lib.Dec.{lit<}
-use mathlib.Core.Path.{refl, sym, ap, _∙_}
-use mathlib.Core.List.{[]}
+use mathlib.Core.Path.{_≡_, refl, sym, ap, _∙_}
+use mathlib.Core.List.{List, []}
 use Prim.Native.Nat.{ℕ}
 use borrow.Author.Tests.{not-true, not-false}
-use Rattle.grammar.specs.Parsed.{refused}
-use Rattle.grammar.specs.Expressions.{expression}
-use Rattle.grammar.specs.Statements.{statement, block, if}
+use mathlib.Core.Bool.{true}
+use Rattle.grammar.specs.Words.{SLParen, SRparen, Zero, step, next-is}
+use Rattle.grammar.specs.Tree.{Tree, Trees}
+use Rattle.grammar.specs.Tree as tree
+use Rattle.grammar.specs.Parsed.{refused, read, Reader, build, InvalidToken, IfWithoutBody}
+use Rattle.grammar.specs.Expressions.{Rec, expression}
+use Rattle.grammar.specs.Statements.{statement, block, else, if}
 use Rattle.parser.specs.Meets.{of-node}
-use Rattle.parser.proofs.Answers.{taken, pass, by-eq, refuses, then-read, need-met, need-failed, sooner}
+use Rattle.parser.specs.Contracts.{body}
+use Rattle.parser.proofs.Answers.{taken, by-eq, refuses, need-met, need-failed, sooner, Starts, starts-at, starts-after, goes, pass-on}
 use Rattle.parser.proofs.Bodies.{body-then}
 use Rattle.parser.proofs.Moves.{falls, fits-same, front-le, le-trans, on-step, ready-same, ready-step, small}
 use borrow.Author.Needs.{needs}
@@ -21,6 +26,27 @@ use Rattle.words.proofs.next_symbol_is.Reads as next-symbol-is-reads
 use Rattle.parser.proofs.part.put_row.Reads as put-row-reads
 use Rattle.parser.proofs.statements.+at_keyword+block+block_behind+body+catch_block+else_block+finally_block+for_each+for_loop+function+if_statement+one_behind+open_body+statement+statements+try_statement+while_statement.Lts-if_statement as lts
 use Rattle.parser.proofs.statements.+at_keyword+block+block_behind+body+catch_block+else_block+finally_block+for_each+for_loop+function+if_statement+one_behind+open_body+statement+statements+try_statement+while_statement.Proof.Measures.{if-statement-at, body-below, else-block-below}
+
+-- The definition, one reading after another.
+module _ (ts : List ℕ) (expr : Rec) (stmt : Reader Trees) (start room : ℕ) {c d : ℕ} (met : next-is ts start SLParen ≡ true) (i : c ≡ step ts start) (j : d ≡ step ts c) where
+  unfoldable first : Starts (if ts expr stmt start room) (expr Zero d room)
+  unfolding if
+  first = starts-after (need-met _ _ _ met) (starts-at (λ (k : ℕ). expr Zero k room) _ (j ∙ ap (step ts) i))
+
+  module _ {condition : Tree} {at left : ℕ} (e : expr Zero d room ≡ read condition at left) where
+    unfoldable second : Starts (if ts expr stmt start room) (body ts (block ts expr stmt) SRparen InvalidToken IfWithoutBody at left)
+    unfolding first
+    second = record { rest = _; eq = goes first e ∙ sym (body-then ts _ _ _ (block ts expr stmt) _ _ _) }
+
+    module _ {main : Tree} {at′ left′ : ℕ} (e′ : body ts (block ts expr stmt) SRparen InvalidToken IfWithoutBody at left ≡ read main at′ left′) where
+      unfoldable third : Starts (if ts expr stmt start room) (else ts expr stmt at′ left′)
+      unfolding second
+      third = record { rest = _; eq = goes second e′ }
+
+      ended : {alternate : Trees} {at″ left″ : ℕ} → else ts expr stmt at′ left′ ≡ read alternate at″ left″
+          → if ts expr stmt start room ≡ build (tree.if start condition main alternate) at″ left″
+      unfolding third
+      ended f = goes third f
 
 module _ (t : ℕ) where
   abbrev cs : lts.Claims
@@ -52,8 +78,7 @@ module _ (t : ℕ) where
   same-length c = c .before .before .before .before .expression .kept .1 .0
 
   pub returns-2 : lts.Need-returns-2 cs (if-statement-at t) if-statement-reads.Post
-  unfolding if
-  returns-2 c = by-eq (need-met _ _ _ (sym (c .before .before .before .before .before .before .before .before .next-symbol-is .ensures) ∙ not-false _ (c .before .before .before .before .before .before .before .if1 .left))) (rw (← (c .before .before .before .before .before .before .before .before .before .iterate .ensures), ← (c .before .before .before .before .before .iterate2 .ensures)) (pass _ (c .before .before .before .before .expression .ensures) (c .enum-told .given .1)))
+  returns-2 c = pass-on (first (c .before .before .before .before .before .before .before .before .before .before .before .before .args .tokens .now) (expression (c .before .before .before .before .before .before .before .before .before .before .before .before .args .tokens .now) (c .before .before .before .before .before .before .before .before .before .before .before .before .args .less)) (statement (c .before .before .before .before .before .before .before .before .before .before .before .before .args .tokens .now) (c .before .before .before .before .before .before .before .before .before .before .before .before .args .less)) _ _ (sym (c .before .before .before .before .before .before .before .before .next-symbol-is .ensures) ∙ not-false _ (c .before .before .before .before .before .before .before .if1 .left)) (c .before .before .before .before .before .before .before .before .before .iterate .ensures) (c .before .before .before .before .before .iterate2 .ensures)) (c .before .before .before .before .expression .ensures) (c .enum-told .given .1)
 
   pub body-requires : lts.Need-body-requires cs (if-statement-at t) if-statement-reads.Post
   body-requires c κs =
@@ -70,8 +95,7 @@ module _ (t : ℕ) where
   same-length-2 c = c .before .before .before .before .body .kept .1 .0 ∙ c .before .before .before .before .before .before .before .before .before .before .before .expression .kept .1 .0
 
   pub returns-3 : lts.Need-returns-3 cs (if-statement-at t) if-statement-reads.Post
-  unfolding if
-  returns-3 c = let h = taken (c .before .before .before .before .before .before .before .before .before .before .before .expression .ensures) (c .before .before .before .before .before .before .before .r .given .1) in by-eq (need-met _ _ _ (sym (c .before .before .before .before .before .before .before .before .before .before .before .before .before .before .before .next-symbol-is .ensures) ∙ not-false _ (c .before .before .before .before .before .before .before .before .before .before .before .before .before .before .if1 .left))) (rw (← (c .before .before .before .before .before .before .before .before .before .before .before .before .before .before .before .before .iterate .ensures), ← (c .before .before .before .before .before .before .before .before .before .before .before .before .iterate2 .ensures)) (by-eq (then-read _ (h .eq) ∙ sym (body-then (c .before .before .before .before .before .before .before .before .before .before .before .before .before .before .before .before .before .before .before .args .tokens .now) _ _ _ (block (c .before .before .before .before .before .before .before .before .before .before .before .before .before .before .before .before .before .before .before .args .tokens .now) (expression (c .before .before .before .before .before .before .before .before .before .before .before .before .before .before .before .before .before .before .before .args .tokens .now) (c .before .before .before .before .before .before .before .before .before .before .before .before .before .before .before .before .before .before .before .args .less)) (statement (c .before .before .before .before .before .before .before .before .before .before .before .before .before .before .before .before .before .before .before .args .tokens .now) (c .before .before .before .before .before .before .before .before .before .before .before .before .before .before .before .before .before .before .before .args .less))) _ _ _)) (pass _ (c .before .before .before .before .body .ensures .1 _ _ _ _ (h .stands)) (c .enum-told2 .given .1))))
+  returns-3 c = let h = taken (c .before .before .before .before .before .before .before .before .before .before .before .expression .ensures) (c .before .before .before .before .before .before .before .r .given .1) in pass-on (second (c .before .before .before .before .before .before .before .before .before .before .before .before .before .before .before .before .before .before .before .args .tokens .now) (expression (c .before .before .before .before .before .before .before .before .before .before .before .before .before .before .before .before .before .before .before .args .tokens .now) (c .before .before .before .before .before .before .before .before .before .before .before .before .before .before .before .before .before .before .before .args .less)) (statement (c .before .before .before .before .before .before .before .before .before .before .before .before .before .before .before .before .before .before .before .args .tokens .now) (c .before .before .before .before .before .before .before .before .before .before .before .before .before .before .before .before .before .before .before .args .less)) _ _ (sym (c .before .before .before .before .before .before .before .before .before .before .before .before .before .before .before .next-symbol-is .ensures) ∙ not-false _ (c .before .before .before .before .before .before .before .before .before .before .before .before .before .before .if1 .left)) (c .before .before .before .before .before .before .before .before .before .before .before .before .before .before .before .before .iterate .ensures) (c .before .before .before .before .before .before .before .before .before .before .before .before .iterate2 .ensures) (h .eq)) (c .before .before .before .before .body .ensures .1 _ _ _ _ (h .stands)) (c .enum-told2 .given .1)
 
   pub else-block-requires : lts.Need-else-block-requires cs (if-statement-at t) if-statement-reads.Post
   else-block-requires c κs =
@@ -89,8 +113,7 @@ module _ (t : ℕ) where
   same-length-3 c = c .before .before .before .before .else-block .kept .1 .0 ∙ c .before .before .before .before .before .before .before .before .before .before .before .body .kept .1 .0 ∙ c .before .before .before .before .before .before .before .before .before .before .before .before .before .before .before .before .before .before .expression .kept .1 .0
 
   pub returns-4 : lts.Need-returns-4 cs (if-statement-at t) if-statement-reads.Post
-  unfolding if
-  returns-4 c = let h = taken (c .before .before .before .before .before .before .before .before .before .before .before .before .before .before .before .before .before .before .expression .ensures) (c .before .before .before .before .before .before .before .before .before .before .before .before .before .before .r .given .1) in let q = taken (c .before .before .before .before .before .before .before .before .before .before .before .body .ensures .1 _ _ _ _ (h .stands)) (c .before .before .before .before .before .before .before .r1 .given .1) in by-eq (need-met _ _ _ (sym (c .before .before .before .before .before .before .before .before .before .before .before .before .before .before .before .before .before .before .before .before .before .before .next-symbol-is .ensures) ∙ not-false _ (c .before .before .before .before .before .before .before .before .before .before .before .before .before .before .before .before .before .before .before .before .before .if1 .left))) (rw (← (c .before .before .before .before .before .before .before .before .before .before .before .before .before .before .before .before .before .before .before .before .before .before .before .iterate .ensures), ← (c .before .before .before .before .before .before .before .before .before .before .before .before .before .before .before .before .before .before .before .iterate2 .ensures)) (by-eq (then-read _ (h .eq) ∙ sym (body-then (c .before .before .before .before .before .before .before .before .before .before .before .before .before .before .before .before .before .before .before .before .before .before .before .before .before .before .args .tokens .now) _ _ _ (block (c .before .before .before .before .before .before .before .before .before .before .before .before .before .before .before .before .before .before .before .before .before .before .before .before .before .before .args .tokens .now) (expression (c .before .before .before .before .before .before .before .before .before .before .before .before .before .before .before .before .before .before .before .before .before .before .before .before .before .before .args .tokens .now) (c .before .before .before .before .before .before .before .before .before .before .before .before .before .before .before .before .before .before .before .before .before .before .before .before .before .before .args .less)) (statement (c .before .before .before .before .before .before .before .before .before .before .before .before .before .before .before .before .before .before .before .before .before .before .before .before .before .before .args .tokens .now) (c .before .before .before .before .before .before .before .before .before .before .before .before .before .before .before .before .before .before .before .before .before .before .before .before .before .before .args .less))) _ _ _) ∙ then-read _ (q .eq)) (pass _ (c .before .before .before .before .else-block .ensures .1 _ _ _ _ (q .stands)) (c .enum-told3 .given .1))))
+  returns-4 c = let h = taken (c .before .before .before .before .before .before .before .before .before .before .before .before .before .before .before .before .before .before .expression .ensures) (c .before .before .before .before .before .before .before .before .before .before .before .before .before .before .r .given .1) in let q = taken (c .before .before .before .before .before .before .before .before .before .before .before .body .ensures .1 _ _ _ _ (h .stands)) (c .before .before .before .before .before .before .before .r1 .given .1) in pass-on (third (c .before .before .before .before .before .before .before .before .before .before .before .before .before .before .before .before .before .before .before .before .before .before .before .before .before .before .args .tokens .now) (expression (c .before .before .before .before .before .before .before .before .before .before .before .before .before .before .before .before .before .before .before .before .before .before .before .before .before .before .args .tokens .now) (c .before .before .before .before .before .before .before .before .before .before .before .before .before .before .before .before .before .before .before .before .before .before .before .before .before .before .args .less)) (statement (c .before .before .before .before .before .before .before .before .before .before .before .before .before .before .before .before .before .before .before .before .before .before .before .before .before .before .args .tokens .now) (c .before .before .before .before .before .before .before .before .before .before .before .before .before .before .before .before .before .before .before .before .before .before .before .before .before .before .args .less)) _ _ (sym (c .before .before .before .before .before .before .before .before .before .before .before .before .before .before .before .before .before .before .before .before .before .before .next-symbol-is .ensures) ∙ not-false _ (c .before .before .before .before .before .before .before .before .before .before .before .before .before .before .before .before .before .before .before .before .before .if1 .left)) (c .before .before .before .before .before .before .before .before .before .before .before .before .before .before .before .before .before .before .before .before .before .before .before .iterate .ensures) (c .before .before .before .before .before .before .before .before .before .before .before .before .before .before .before .before .before .before .before .iterate2 .ensures) (h .eq) (q .eq)) (c .before .before .before .before .else-block .ensures .1 _ _ _ _ (q .stands)) (c .enum-told3 .given .1)
 
   pub put-row-requires : lts.Need-put-row-requires cs (if-statement-at t) if-statement-reads.Post
   put-row-requires c κs = (fits-same _ _ _ (c .before .before .before .before .before .before .before .before .before .before .before .before .before .before .before .before .before .before .before .before .before .before .before .before .before .before .before .before .pre .1 .fits) (c .before .before .before .before .before .before .else-block .kept .1 .0 ∙ c .before .before .before .before .before .before .before .before .before .before .before .before .before .body .kept .1 .0 ∙ c .before .before .before .before .before .before .before .before .before .before .before .before .before .before .before .before .before .before .before .before .expression .kept .1 .0), small (c .before .before .before .before .before .before .before .before .before .before .before .before .before .before .before .before .before .before .before .before .before .before .before .before .before .before .before .before .pre .1))
@@ -99,10 +122,9 @@ module _ (t : ℕ) where
   same-length-4 c = c .before .before .put-row .kept .0 ∙ c .before .before .before .before .before .before .before .before .before .else-block .kept .1 .0 ∙ c .before .before .before .before .before .before .before .before .before .before .before .before .before .before .before .before .body .kept .1 .0 ∙ c .before .before .before .before .before .before .before .before .before .before .before .before .before .before .before .before .before .before .before .before .before .before .before .expression .kept .1 .0
 
   pub returns-5 : lts.Need-returns-5 cs (if-statement-at t) if-statement-reads.Post
-  unfolding if
   returns-5 c =
       let h = taken (c .before .before .before .before .before .before .before .before .before .before .before .before .before .before .before .before .before .before .before .before .before .before .before .expression .ensures) (c .before .before .before .before .before .before .before .before .before .before .before .before .before .before .before .before .before .before .before .r .given .1) in
       let q = taken (c .before .before .before .before .before .before .before .before .before .before .before .before .before .before .before .before .body .ensures .1 _ _ _ _ (h .stands)) (c .before .before .before .before .before .before .before .before .before .before .before .before .r1 .given .1) in
       let w = taken (c .before .before .before .before .before .before .before .before .before .else-block .ensures .1 _ _ _ _ (q .stands)) (c .before .before .before .before .before .r2 .given .1) in
-      sooner (le-trans (on-step _ _ (c .before .before .before .before .before .before .before .before .before .before .before .before .before .before .before .before .before .before .before .before .before .before .before .before .before .before .before .before .iterate .ensures)) (on-step _ _ (c .before .before .before .before .before .before .before .before .before .before .before .before .before .before .before .before .before .before .before .before .before .before .before .before .iterate2 .ensures))) (by-eq (need-met _ _ _ (sym (c .before .before .before .before .before .before .before .before .before .before .before .before .before .before .before .before .before .before .before .before .before .before .before .before .before .before .before .next-symbol-is .ensures) ∙ not-false _ (c .before .before .before .before .before .before .before .before .before .before .before .before .before .before .before .before .before .before .before .before .before .before .before .before .before .before .if1 .left))) (rw (← (c .before .before .before .before .before .before .before .before .before .before .before .before .before .before .before .before .before .before .before .before .before .before .before .before .before .before .before .before .iterate .ensures), ← (c .before .before .before .before .before .before .before .before .before .before .before .before .before .before .before .before .before .before .before .before .before .before .before .before .iterate2 .ensures)) (by-eq (then-read _ (h .eq) ∙ sym (body-then (c .before .before .before .before .before .before .before .before .before .before .before .before .before .before .before .before .before .before .before .before .before .before .before .before .before .before .before .before .before .before .before .args .tokens .now) _ _ _ (block (c .before .before .before .before .before .before .before .before .before .before .before .before .before .before .before .before .before .before .before .before .before .before .before .before .before .before .before .before .before .before .before .args .tokens .now) (expression (c .before .before .before .before .before .before .before .before .before .before .before .before .before .before .before .before .before .before .before .before .before .before .before .before .before .before .before .before .before .before .before .args .tokens .now) (c .before .before .before .before .before .before .before .before .before .before .before .before .before .before .before .before .before .before .before .before .before .before .before .before .before .before .before .before .before .before .before .args .less)) (statement (c .before .before .before .before .before .before .before .before .before .before .before .before .before .before .before .before .before .before .before .before .before .before .before .before .before .before .before .before .before .before .before .args .tokens .now) (c .before .before .before .before .before .before .before .before .before .before .before .before .before .before .before .before .before .before .before .before .before .before .before .before .before .before .before .before .before .before .before .args .less))) _ _ _) ∙ then-read _ (q .eq) ∙ then-read _ (w .eq))
-      (c .before .before .put-row .ensures (c .before .before .before .before .before .before .before .before .before .before .before .before .before .before .before .before .before .before .before .before .before .before .before .before .before .before .before .before .before .before .before .args .tokens .now) (w .stands .within) .1 _ [] _ _ _ _ (w .stands) (record { few = tt; root = of-node; refs = (h .head, q .head, w .head, refl) })))))
+      sooner (le-trans (on-step _ _ (c .before .before .before .before .before .before .before .before .before .before .before .before .before .before .before .before .before .before .before .before .before .before .before .before .before .before .before .before .iterate .ensures)) (on-step _ _ (c .before .before .before .before .before .before .before .before .before .before .before .before .before .before .before .before .before .before .before .before .before .before .before .before .iterate2 .ensures))) (by-eq (ended (c .before .before .before .before .before .before .before .before .before .before .before .before .before .before .before .before .before .before .before .before .before .before .before .before .before .before .before .before .before .before .before .args .tokens .now) (expression (c .before .before .before .before .before .before .before .before .before .before .before .before .before .before .before .before .before .before .before .before .before .before .before .before .before .before .before .before .before .before .before .args .tokens .now) (c .before .before .before .before .before .before .before .before .before .before .before .before .before .before .before .before .before .before .before .before .before .before .before .before .before .before .before .before .before .before .before .args .less)) (statement (c .before .before .before .before .before .before .before .before .before .before .before .before .before .before .before .before .before .before .before .before .before .before .before .before .before .before .before .before .before .before .before .args .tokens .now) (c .before .before .before .before .before .before .before .before .before .before .before .before .before .before .before .before .before .before .before .before .before .before .before .before .before .before .before .before .before .before .before .args .less)) _ _ (sym (c .before .before .before .before .before .before .before .before .before .before .before .before .before .before .before .before .before .before .before .before .before .before .before .before .before .before .before .next-symbol-is .ensures) ∙ not-false _ (c .before .before .before .before .before .before .before .before .before .before .before .before .before .before .before .before .before .before .before .before .before .before .before .before .before .before .if1 .left)) (c .before .before .before .before .before .before .before .before .before .before .before .before .before .before .before .before .before .before .before .before .before .before .before .before .before .before .before .before .iterate .ensures) (c .before .before .before .before .before .before .before .before .before .before .before .before .before .before .before .before .before .before .before .before .before .before .before .before .iterate2 .ensures) (h .eq) (q .eq) (w .eq))
+      (c .before .before .put-row .ensures (c .before .before .before .before .before .before .before .before .before .before .before .before .before .before .before .before .before .before .before .before .before .before .before .before .before .before .before .before .before .before .before .args .tokens .now) (w .stands .within) .1 _ [] _ _ _ _ (w .stands) (record { few = tt; root = of-node; refs = (h .head, q .head, w .head, refl) })))
