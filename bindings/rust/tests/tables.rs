@@ -65,7 +65,8 @@ fn the_c_header_has_the_same_classes() {
 
 #[test]
 fn the_rattle_source_has_the_same_numbers() {
-    let files = ["crates/parser/src/names.rt", "crates/answer/src/lib.rt", "crates/files/src/lib.rt"];
+    let files =
+        ["crates/parser/src/names.rt", "crates/answer/src/lib.rt", "crates/files/src/lib.rt"];
     let source: String = files.iter().map(|path| text_of(path)).collect();
     let constants: Vec<(String, u32)> = source.lines().filter_map(constant).collect();
     let known = members!(Reason).into_iter().chain(members!(Kind));
@@ -84,7 +85,8 @@ fn constant(line: &str) -> Option<(String, u32)> {
 #[test]
 fn the_rattle_source_has_the_same_codes() {
     let source = text_of("crates/tokens/specs/Symbols.antt");
-    for (kind, members) in [("symbol-code", members!(Symbol)), ("keyword-code", members!(Keyword))] {
+    for (kind, members) in [("symbol-code", members!(Symbol)), ("keyword-code", members!(Keyword))]
+    {
         let codes = source.lines().filter_map(|line| code(line, kind)).collect::<Vec<_>>();
         let expected: Vec<_> = members.into_iter().map(|(name, code, _)| (name, code)).collect();
         assert_eq!(codes, expected);
