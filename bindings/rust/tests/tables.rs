@@ -65,8 +65,8 @@ fn the_c_header_has_the_same_classes() {
 
 #[test]
 fn the_rattle_source_has_the_same_numbers() {
-    let files = ["crates/parser/src/names.rt", "crates/files/src/lib.rt"];
-    let source: String = files.iter().map(|path| text_of(path)).collect();
+    let files = ["answer/src/lib.rt", "files/src/lib.rt", "parser/src/names.rt"];
+    let source: String = files.iter().map(|path| text_of(&format!("crates/{}", path))).collect();
     let constants: Vec<(String, u32)> = source.lines().filter_map(constant).collect();
     let known = members!(Reason).into_iter().chain(members!(Kind));
     for (name, number, _) in known {
@@ -83,19 +83,18 @@ fn constant(line: &str) -> Option<(String, u32)> {
 
 #[test]
 fn the_rattle_source_has_the_same_codes() {
-    let source = text_of("crates/words/src/symbols.rt");
+    let source = text_of("crates/tokens/src/codes.rt");
     for (kind, members) in [("Symbol", members!(Symbol)), ("Keyword", members!(Keyword))] {
-        let codes = source.lines().filter_map(|line| code(line, kind)).collect::<Vec<_>>();
+        let names = source.lines().filter_map(|line| listed(line, kind)).zip(0..);
         let expected: Vec<_> = members.into_iter().map(|(name, code, _)| (name, code)).collect();
-        assert_eq!(codes, expected);
+        assert_eq!(names.collect::<Vec<_>>(), expected);
     }
 }
 
-/// The name and code of a line `Symbol::SPlus => 1,`.
-fn code(line: &str, kind: &str) -> Option<(String, u32)> {
-    let line = line.trim().strip_prefix(kind)?.strip_prefix("::")?;
-    let (name, code) = line.split_once(" => ")?;
-    Some((plain(name), code.strip_suffix(',')?.parse().ok()?))
+/// The name of a line `Symbol::SPlus,` in the list of those by their codes.
+fn listed(line: &str, kind: &str) -> Option<String> {
+    let name = line.trim().strip_prefix(kind)?.strip_prefix("::")?;
+    name.strip_suffix(',').map(plain)
 }
 
 #[test]
