@@ -1,7 +1,6 @@
 // The orders and the marks of operators, and whether an expression goes on.
 use tokens::Symbol;
 use tokens::Token;
-use tokens::code_of;
 use tokens::word_of;
 ghost use mathlib.Core.Path.{_≡_};
 ghost use mathlib.Core.Bool.{_||_};
@@ -9,51 +8,6 @@ ghost use Prim.Native.Nat.{_-_};
 ghost use lib.Dec.{eqb, ltb};
 ghost use Rattle.grammar.specs.Words.{SIncr, SDecr, SLParen, SLBox, order, infix-of, goes-on};
 ghost use Rattle.tokens.specs.Tokens.{word};
-
-// The mark of each infix operator, by its code; 0 for the other operators.
-const MARKS: [u32; 41] = [
-    0, // SInvalid
-    0, // SPlus
-    1, // SMinus
-    2, // SMul
-    3, // SDiv
-    0, // SLParen
-    0, // SRparen
-    13, // SLt
-    11, // SGt
-    12, // SLte
-    10, // SGte
-    0, // SSemiColon
-    0, // SComma
-    4, // SMod
-    0, // SExcl
-    7, // SEq
-    8, // SEeq
-    9, // SNe
-    0, // SLBrace
-    0, // SRBrace
-    5, // SAnd
-    6, // SOr
-    20, // SAndEq
-    21, // SOrEq
-    0, // SNeg
-    15, // SLAnd
-    14, // SLOr
-    16, // SPlusEq
-    17, // SMinusEq
-    0, // SIncr
-    0, // SDecr
-    18, // SMulEq
-    19, // SDivEq
-    22, // SModEq
-    0, // SLBox
-    0, // SRBox
-    0, // SImpl
-    0, // SColon
-    0, // SDot
-    0, // SResolve
-    0, // SDollar
-];
 
 // The order of a token, 0 for the lowest: get_eval_order.
 pub fn order_of(t: Token) -> usize
@@ -128,10 +82,32 @@ pub fn infix_mark(t: Token) -> u32
     ensures { λ r. ⌜ r ≡ infix-of (word t) - 1 ⌝ }
 {
     match t {
-        Token::Operator(_) => {
-            let code = code_of(word_of(t)) as usize;
-            MARKS[code]
-        }
+        Token::Operator(s) => match s {
+            Symbol::SPlus => 0,
+            Symbol::SMinus => 1,
+            Symbol::SMul => 2,
+            Symbol::SDiv => 3,
+            Symbol::SMod => 4,
+            Symbol::SAnd => 5,
+            Symbol::SOr => 6,
+            Symbol::SEq => 7,
+            Symbol::SEeq => 8,
+            Symbol::SNe => 9,
+            Symbol::SGte => 10,
+            Symbol::SGt => 11,
+            Symbol::SLte => 12,
+            Symbol::SLt => 13,
+            Symbol::SLOr => 14,
+            Symbol::SLAnd => 15,
+            Symbol::SPlusEq => 16,
+            Symbol::SMinusEq => 17,
+            Symbol::SMulEq => 18,
+            Symbol::SDivEq => 19,
+            Symbol::SAndEq => 20,
+            Symbol::SOrEq => 21,
+            Symbol::SModEq => 22,
+            _ => 0,
+        },
         _ => 0,
     }
 }

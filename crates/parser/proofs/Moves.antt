@@ -5,9 +5,9 @@ use Prim.Native.Nat.{ℕ, _+_, _*_, _-_, _≤_, _<_}
 use native.Mathlib.Omega.{arith}
 use lib.ListN.{length}
 use lib.Dec.{eqb, ltb}
-use mathlib.Core.Bool.{Bool, true, false, and-false, false≢true}
+use mathlib.Core.Bool.{Bool, true, false, not, _&&_, and-false, and-eq-true-iff, false≢true}
 use borrow.Author.Tests.{ltb-false, eqb-true, eqb-false}
-use Rattle.grammar.specs.Words.{tok, step, is, next-is, EOF, goes-on, operates, order, infix-of, by-code, class, infixes, orders}
+use Rattle.grammar.specs.Words.{tok, step, is, next-is, EOF, SSemiColon, goes-on, operates, order, infix-of, by-code, class, infixes, orders}
 use Rattle.grammar.specs.Tree.{Trees}
 use Rattle.words.proofs.Steps.{step-on, step-within}
 use Rattle.parser.specs.Meets.{Sound, Ready, Front, Stands}
@@ -76,6 +76,11 @@ no-more pre e = false≢true (sym (and-false (ltb pre 0)) ∙ e)
 
 pub goes-onward : {ts : List ℕ} {at : ℕ} (pre : ℕ) → Sound ts → at < length ts → goes-on pre (tok ts (step ts at)) ≡ true → at < step ts at
 goes-onward pre s lt e = moves-onto s lt (λ q. no-more pre (ap (goes-on pre) (sym q) ∙ e))
+
+-- What an expression goes on with operates.
+pub operates-on : (pre w : ℕ) → goes-on pre w ≡ true → operates w ≡ true
+unfolding goes-on
+operates-on pre w e = and-eq-true-iff (not (eqb w SSemiColon) && ltb pre (order w)) (operates w) .0 e .1
 
 -- ---- numbers that many calls ask for
 

@@ -12,9 +12,10 @@ use tokens::Symbol;
 use tokens::Token;
 use words::Cursor;
 ghost use mathlib.Core.Path.{_≡_};
+ghost use mathlib.Core.Bool.{true};
 ghost use Prim.Native.Nat.{ℕ, _*_, _≤_, _<_};
 ghost use lib.ListN.{length};
-ghost use Rattle.grammar.specs.Words.{tok};
+ghost use Rattle.grammar.specs.Words.{tok, operates};
 ghost use Rattle.grammar.specs.Parsed.{turns};
 ghost use Rattle.grammar.specs.Expressions as spec;
 ghost use Rattle.tokens.specs.Tokens.{word};
@@ -41,13 +42,15 @@ pub fn expression(
     }
     let less = allow - 1;
     let r = prefix_part(tokens, pool, first, c, less);
-    let Read::Tree(k, h, d) = r else {
-        return r;
-    };
-    if words::next_symbol_is(tokens, d, Symbol::SSemiColon) {
-        return Read::Tree(k, h, words::iterate(tokens, d));
+    match r {
+        Read::Tree(k, h, d) => {
+            if words::next_symbol_is(tokens, d, Symbol::SSemiColon) {
+                return Read::Tree(k, h, words::iterate(tokens, d));
+            }
+            climb(tokens, pool, first, k, h, d, order, less)
+        }
+        Read::Refused(n, p) => Read::Refused(n, p),
     }
-    climb(tokens, pool, first, k, h, d, order, less)
 }
 
 // The match at the head of parse_expression.
@@ -450,17 +453,20 @@ fn climb(
     let mut d = c;
     while orders::goes_on(order, words::next(tokens, d)) {
         let r = operation(tokens, pool, first, k, h, words::iterate(tokens, d), less);
-        let Read::Tree(m, g, e) = r else {
-            return r;
-        };
-        k = m;
-        h = g;
-        d = e;
+        match r {
+            Read::Tree(m, g, e) => {
+                k = m;
+                h = g;
+                d = e;
+            }
+            Read::Refused(n, p) => return Read::Refused(n, p),
+        }
     }
     Read::Tree(k, h, d)
 }
 
 // What an operator does behind its left side: the branches in the loop of parse_expression.
+// `climb` comes here with operators only. So `infix_exp` has one caller, and is compiled into it.
 fn operation(
     tokens: &[u16],
     pool: &mut [u32],
@@ -470,12 +476,12 @@ fn operation(
     c: Cursor,
     less: usize,
 ) -> Read
-    requires { ⌜ (Ready (now tokens) (now pool) first c) × (8 * rows ≤ length (now pool)) ⌝ }
+    requires { ⌜ (Ready (now tokens) (now pool) first c) × (8 * rows ≤ length (now pool)) × (operates (tok (now tokens) c) ≡ true) ⌝ }
     ensures { λ r. ⌜ Follows (spec.operation (now (tokens .entry)) (spec.expression (now (tokens .entry)) less)) (now (tokens .entry)) c first rows head r (now (pool .entry)) (now (pool .exit)) ⌝ }
 {
     let t = words::current(tokens, c);
     let Token::Operator(s) = t else {
-        return infix_exp(tokens, pool, first, rows, head, c, less);
+        return Read::Refused(INVALID_TOKEN, c);
     };
     match s {
         Symbol::SIncr => put_row(pool, first, rows, c, SUFFIX, 0, c, head, 0, 0, 0),

@@ -1,6 +1,7 @@
 -- What a test that is computed at each of some numbers tells of any one of them.
-use Prim.Native.Nat.{ℕ, zero, suc, _<_}
+use Prim.Native.Nat.{ℕ, zero, suc, _+_, _≤_, _<_}
 use native.Mathlib.Nat.{eq-or-lt-of-le, le-of-suc-le-suc, not-suc-le-zero}
+use native.Mathlib.Omega.{arith}
 use mathlib.Core.Path.{_≡_}
 use mathlib.Core.Bool.{Bool, true, false, cond, _&&_, _||_, and-eq-true-iff}
 use mathlib.Core.List.{List, [], _∷_}
@@ -46,3 +47,15 @@ under p zero h k l = absurd (not-suc-le-zero l)
 under p (suc n) h k l =
     let both = and-eq-true-iff (p n) (below p n) .0 h in
     ⊎-elim (λ e. rw e (both .0)) (λ m. under p n (both .1) k m) (eq-or-lt-of-le (le-of-suc-le-suc l))
+
+-- A number is none of so many from another on: what a `_` arm knows.
+abbrev pub None-from : (at count x : ℕ) → Type 0
+None-from at zero x = Unit
+None-from at (suc n) x = None-from at n x × (x ≡ at + n → ⊥)
+
+-- Then it is past them if it is not before them.
+pub past : (at count x : ℕ) → at ≤ x → None-from at count x → at + count ≤ x
+past at zero x l none = omega arith
+past at (suc n) x l none =
+    let other = none .1 in
+    omega (arith, past at n x l (none .0))

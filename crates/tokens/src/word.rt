@@ -8,9 +8,6 @@ ghost use mathlib.Core.Path.{_≡_};
 ghost use Rattle.grammar.specs.Words.{class, code, valid};
 ghost use Rattle.tokens.specs.Tokens.{token, word};
 
-// How many codes each class has.
-const CODES: [u16; 11] = [1, 1, 1, 1, 1, 1, 1, 1, 41, 28, 1];
-
 // The upper eight bits of a word.
 pub fn class_of(word: u16) -> u16
     ensures { λ r. ⌜ r ≡ class word ⌝ }
@@ -29,11 +26,14 @@ pub fn code_of(word: u16) -> u16
 pub fn is_valid(word: u16) -> bool
     ensures { λ r. ⌜ r ≡ valid word ⌝ }
 {
-    let class = class_of(word) as usize;
-    if class < 11 {
-        code_of(word) < CODES[class]
-    } else {
-        false
+    let code = code_of(word);
+    if code == 0 {
+        return class_of(word) < 11;
+    }
+    match class_of(word) {
+        8 => code < 41,
+        9 => code < 28,
+        _ => false,
     }
 }
 

@@ -9,20 +9,15 @@ use Rattle.grammar.specs.Words.{class, code, codes, valid}
 use Rattle.tokens.specs.declared.Token.the-variants.{Operator, Keyword}
 use Rattle.tokens.specs.Symbols.{symbol-at, keyword-at}
 use Rattle.tokens.specs.Tokens.{token}
+use Rattle.tokens.proofs.Tests.{None-from, past}
 use Rattle.tokens.proofs.Round.{count, entry, few-classes, bad-token, token-operator, token-keyword, token-plain}
 use Rattle.tokens.proofs.word.token_of.Statement.{statement}
 use Rattle.tokens.proofs.word.token_of.Tie as tie
 
--- A number is none of those from 1 to another.
-abbrev None-to : ℕ → ℕ → Type 0
-None-to zero x = Unit
-None-to (suc n) x = None-to n x × (x ≡ suc n → ⊥)
-
-zero-left : (n x : ℕ) → x < suc n → None-to n x → x ≡ 0
-zero-left zero x l none = omega arith
-zero-left (suc n) x l none =
-    let other = none .1 in
-    zero-left n x (omega arith) (none .0)
+-- A number below 11 that is none from 1 on is 0.
+zero-left : (x : ℕ) → x < 11 → None-from 1 10 x → x ≡ 0
+zero-left zero l none = refl
+zero-left (suc x) l none = absurd (omega (arith, past 1 10 (suc x) (omega arith) none))
 
 module _ (c : tie.After-class-of) where
   abbrev w : ℕ
@@ -86,7 +81,7 @@ rest : tie.Need-returns-12
 unfolding codes
 rest c =
     let under : c .before .class-of .result < 11 = rw (c .before .class-of .ensures) (few-classes _ _ (few (c .before))) in
-    plain (c .before) 0 (zero-left 10 _ under (c .match .rest)) refl
+    plain (c .before) 0 (zero-left _ under (c .match .rest)) refl
 
 pub token-of-spec : {M : Type 1} → statement M
 unfolding codes

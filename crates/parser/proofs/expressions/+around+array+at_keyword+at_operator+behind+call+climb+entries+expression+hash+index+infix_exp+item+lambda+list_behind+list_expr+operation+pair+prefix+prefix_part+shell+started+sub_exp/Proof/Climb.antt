@@ -11,9 +11,9 @@ use Rattle.grammar.specs.Expressions.{expression, climb}
 use Rattle.tokens.specs.Tokens.{word}
 use Rattle.tokens.proofs.Round.{word-token}
 use Rattle.parser.specs.Meets.{Stands, one}
-use Rattle.parser.proofs.Answers.{bounds, bounded-tree, bounded-told, taken, pass, by-eq, choose-true, choose-false, then-read}
+use Rattle.parser.proofs.Answers.{bounds, bounded-tree, bounded-refused, told, taken, pass, by-eq, choose-true, choose-false, then-read}
 use Rattle.parser.proofs.Loops.{Turning, starts, stops, turns-on}
-use Rattle.parser.proofs.Moves.{falls, goes-onward, le-trans, on-step, ready-same, ready-step, stands-step}
+use Rattle.parser.proofs.Moves.{falls, goes-onward, operates-on, le-trans, on-step, ready-same, ready-step, stands-step}
 use borrow.Author.Needs.{needs}
 use Rattle.parser.proofs.expressions.climb.Reads as climb-reads
 use Rattle.orders.proofs.goes_on.Reads as goes-on-reads
@@ -57,24 +57,10 @@ module _ (t : ℕ) where
 
   pub operation-requires : lts.Need-operation-requires cs (climb-at t) climb-reads.Post Inv-loop μ-loop
   operation-requires c κs =
-      (falls _ _ _ _ _ _ _ (c .before .before .before .before .before .before .before .before .pre .0) (le-trans (c .before .before .before .before .before .loop .inv .on) (on-step _ _ (c .iterate .ensures))) (lit< tt), (ready-step _ _ (c .iterate .ensures) (ready-same (c .before .before .before .before .before .before .before .before .pre .1 .0) (c .before .before .before .before .before .loop .inv .same) (c .before .before .before .before .before .loop .inv .within)), c .before .before .before .before .before .loop .inv .fit))
+      (falls _ _ _ _ _ _ _ (c .before .before .before .before .before .before .before .before .pre .0) (le-trans (c .before .before .before .before .before .loop .inv .on) (on-step _ _ (c .iterate .ensures))) (lit< tt), (ready-step _ _ (c .iterate .ensures) (ready-same (c .before .before .before .before .before .before .before .before .pre .1 .0) (c .before .before .before .before .before .loop .inv .same) (c .before .before .before .before .before .loop .inv .within)), c .before .before .before .before .before .loop .inv .fit, rw (c .iterate .ensures) (operates-on _ _ (ap (goes-on _) (sym (ap word (c .before .before .before .before .next .ensures) ∙ word-token _ (c .before .before .before .before .before .before .before .before .pre .1 .0 .sound .good (step (c .before .before .before .before .before .before .before .before .args .tokens .now) (c .before .before .before .before .before .loop .d))))) ∙ sym (c .before .before .before .goes-on .ensures) ∙ c .before .before .if1 .taken))))
 
   pub enum-known-r : lts.Need-enum-known-r cs (climb-at t) climb-reads.Post Inv-loop μ-loop
   enum-known-r c = search needs
-
-  pub enum-told : lts.Need-enum-told cs (climb-at t) climb-reads.Post Inv-loop μ-loop
-  enum-told c = search needs
-
-  pub same-length : lts.Need-same-length cs (climb-at t) climb-reads.Post Inv-loop μ-loop
-  same-length c = c .before .before .before .before .operation .kept .1 .0 ∙ c .before .before .before .before .before .before .before .before .before .before .loop .inv .same
-
-  pub returns : lts.Need-returns cs (climb-at t) climb-reads.Post Inv-loop μ-loop
-  unfolding climb
-  returns c = (
-    bounded-told (c .enum-told .given .1),
-    λ from t zs left s e. let w = c .before .before .before .before .before .before .before .before .before .before .loop .inv .state from t zs left s e in
-        by-eq (w .eq ∙ choose-true _ _ (ap (goes-on _) (sym (ap word (c .before .before .before .before .before .before .before .before .before .next .ensures) ∙ word-token _ (c .before .before .before .before .before .before .before .before .before .before .before .before .before .pre .1 .0 .sound .good (step (c .before .before .before .before .before .before .before .before .before .before .before .before .before .args .tokens .now) (c .before .before .before .before .before .before .before .before .before .before .loop .d))))) ∙ sym (c .before .before .before .before .before .before .before .before .goes-on .ensures) ∙ c .before .before .before .before .before .before .before .if1 .taken)) (rw (← (c .before .before .before .before .before .iterate .ensures)) (pass _ (c .before .before .before .before .operation .ensures .1 _ _ _ _ (stands-step _ _ (c .before .before .before .before .before .iterate .ensures) (w .stands)) (w .head)) (c .enum-told .given .1))),
-  )
 
   pub loop-less : lts.Need-loop-less cs (climb-at t) climb-reads.Post Inv-loop μ-loop
   loop-less c = let b = bounds (c .before .before .before .before .before .operation .ensures .0) (c .before .r .given .1) in omega (arith, b .on, b .within, goes-onward _ (c .before .before .before .before .before .before .before .before .before .before .before .before .before .before .pre .1 .0 .sound) (c .before .before .before .before .before .before .before .before .before .before .before .loop .inv .within) (ap (goes-on _) (sym (ap word (c .before .before .before .before .before .before .before .before .before .before .next .ensures) ∙ word-token _ (c .before .before .before .before .before .before .before .before .before .before .before .before .before .before .pre .1 .0 .sound .good (step (c .before .before .before .before .before .before .before .before .before .before .before .before .before .before .args .tokens .now) (c .before .before .before .before .before .before .before .before .before .before .before .loop .d))))) ∙ sym (c .before .before .before .before .before .before .before .before .before .goes-on .ensures) ∙ c .before .before .before .before .before .before .before .before .if1 .taken), c .before .before .before .before .before .before .iterate .ensures)
@@ -91,6 +77,20 @@ module _ (t : ℕ) where
         state = λ from t zs left s e. let w = c .before .before .before .before .before .before .before .before .before .before .before .loop .inv .state from t zs left s e in let q = taken (c .before .before .before .before .before .operation .ensures .1 _ _ _ _ (stands-step _ _ (c .before .before .before .before .before .before .iterate .ensures) (w .stands)) (w .head)) (c .before .r .given .1) in
             turns-on w _ _ (choose-true _ _ (ap (goes-on _) (sym (ap word (c .before .before .before .before .before .before .before .before .before .before .next .ensures) ∙ word-token _ (c .before .before .before .before .before .before .before .before .before .before .before .before .before .before .pre .1 .0 .sound .good (step (c .before .before .before .before .before .before .before .before .before .before .before .before .before .before .args .tokens .now) (c .before .before .before .before .before .before .before .before .before .before .before .loop .d))))) ∙ sym (c .before .before .before .before .before .before .before .before .before .goes-on .ensures) ∙ c .before .before .before .before .before .before .before .before .if1 .taken) ∙ rw (← (c .before .before .before .before .before .before .iterate .ensures)) (then-read _ (q .eq))) (omega (arith, b .on, goes-onward _ (c .before .before .before .before .before .before .before .before .before .before .before .before .before .before .pre .1 .0 .sound) (c .before .before .before .before .before .before .before .before .before .before .before .loop .inv .within) (ap (goes-on _) (sym (ap word (c .before .before .before .before .before .before .before .before .before .before .next .ensures) ∙ word-token _ (c .before .before .before .before .before .before .before .before .before .before .before .before .before .before .pre .1 .0 .sound .good (step (c .before .before .before .before .before .before .before .before .before .before .before .before .before .before .args .tokens .now) (c .before .before .before .before .before .before .before .before .before .before .before .loop .d))))) ∙ sym (c .before .before .before .before .before .before .before .before .before .goes-on .ensures) ∙ c .before .before .before .before .before .before .before .before .if1 .taken), c .before .before .before .before .before .before .iterate .ensures)) (q .head) (q .stands);
       }
+
+  pub enum-known-r-2 : lts.Need-enum-known-r-2 cs (climb-at t) climb-reads.Post Inv-loop μ-loop
+  enum-known-r-2 c = search needs
+
+  pub same-length : lts.Need-same-length cs (climb-at t) climb-reads.Post Inv-loop μ-loop
+  same-length c = c .before .before .before .before .before .operation .kept .1 .0 ∙ c .before .before .before .before .before .before .before .before .before .before .before .loop .inv .same
+
+  pub returns : lts.Need-returns cs (climb-at t) climb-reads.Post Inv-loop μ-loop
+  unfolding climb
+  returns c = (
+    bounded-refused _ _,
+    λ from t zs left s e. let w = c .before .before .before .before .before .before .before .before .before .before .before .loop .inv .state from t zs left s e in
+        by-eq (w .eq ∙ choose-true _ _ (ap (goes-on _) (sym (ap word (c .before .before .before .before .before .before .before .before .before .before .next .ensures) ∙ word-token _ (c .before .before .before .before .before .before .before .before .before .before .before .before .before .before .pre .1 .0 .sound .good (step (c .before .before .before .before .before .before .before .before .before .before .before .before .before .before .args .tokens .now) (c .before .before .before .before .before .before .before .before .before .before .before .loop .d))))) ∙ sym (c .before .before .before .before .before .before .before .before .before .goes-on .ensures) ∙ c .before .before .before .before .before .before .before .before .if1 .taken)) (rw (← (c .before .before .before .before .before .before .iterate .ensures)) (told (c .before .r2 .given .1) (pass _ (c .before .before .before .before .before .operation .ensures .1 _ _ _ _ (stands-step _ _ (c .before .before .before .before .before .before .iterate .ensures) (w .stands)) (w .head)) (c .before .r2 .given .1)))),
+  )
 
   pub same-length-2 : lts.Need-same-length-2 cs (climb-at t) climb-reads.Post Inv-loop μ-loop
   same-length-2 c = c .before .before .before .loop .inv .same

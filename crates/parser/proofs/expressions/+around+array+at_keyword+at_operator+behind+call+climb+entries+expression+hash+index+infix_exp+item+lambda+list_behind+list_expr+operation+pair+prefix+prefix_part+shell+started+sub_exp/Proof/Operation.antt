@@ -1,10 +1,11 @@
 -- `operation` meets its contract: a suffix, a call or an index by its operator, and an infix operator else.
-use mathlib.Core.Path.{_≡_, refl}
-use mathlib.Core.Bool.{Bool, true}
+use mathlib.Core.Path.{_≡_, refl, sym, ap, _∙_}
+use mathlib.Core.Bool.{Bool, true, false≢true, not}
 use mathlib.Core.List.{List, [], _∷_}
 use Prim.Native.Nat.{ℕ}
 use native.Mathlib.Omega.{arith}
-use Rattle.grammar.specs.Words.{SIncr, SDecr, SLParen, SLBox, tok, codes}
+use borrow.Author.Tests.{not-true}
+use Rattle.grammar.specs.Words.{SIncr, SDecr, SLParen, SLBox, tok, class, code, by-code, infixes, infix-of, codes, operates}
 use Rattle.grammar.specs.Parsed.{match, choose}
 use Rattle.grammar.specs.Expressions.{Rec, operation, infix-expression, suffix-expression}
 use Rattle.tokens.proofs.Arms.{token-arm, operator-arm}
@@ -35,7 +36,7 @@ by-infix rec e h f = (f .0, λ from t zs left s g. by-eq (unmatched _ _ _ _ _ (r
 
 module _ (t : ℕ) where
   abbrev cs : lts.Claims
-  cs = (current-reads.Asked, current-reads.Learnt, infix-exp-below t, infix-exp-reads.Post, put-row-reads.Asked, put-row-reads.Learnt, call-below t, call-reads.Post, index-below t, index-reads.Post)
+  cs = (current-reads.Asked, current-reads.Learnt, put-row-reads.Asked, put-row-reads.Learnt, call-below t, call-reads.Post, index-below t, index-reads.Post, infix-exp-below t, infix-exp-reads.Post)
 
   pub current-requires : lts.Need-current-requires cs (operation-at t) operation-reads.Post
   current-requires c κs = search needs
@@ -43,15 +44,10 @@ module _ (t : ℕ) where
   pub enum-known-t : lts.Need-enum-known-t cs (operation-at t) operation-reads.Post
   enum-known-t c = search needs
 
-  pub infix-exp-requires : lts.Need-infix-exp-requires cs (operation-at t) operation-reads.Post
-  infix-exp-requires c κs = (omega (arith, c .before .before .before .before .before .pre .0), c .before .before .before .before .before .pre .1)
-
-  pub same-length : lts.Need-same-length cs (operation-at t) operation-reads.Post
-  same-length c = search needs
-
   pub returns : lts.Need-returns cs (operation-at t) operation-reads.Post
-  unfolding codes
-  returns c = by-infix _ (word-of (c .before .before .before .before .before .before .before .before .pre .1 .0) (c .before .before .before .before .before .current .ensures)) (token-arm others (but (8 ∷ []) 11) (c .before .before .before .before .before .current .result) (c .before .before .before .before .match .keys2) refl) (c .before .before .infix-exp .ensures)
+  unfolding operates infix-of by-code class code infixes codes
+  returns c =
+      absurd (false≢true (sym (not-true _ (token-arm (λ w. not (operates w)) (but (8 ∷ []) 11) (c .before .current .result) (c .match .keys2) refl)) ∙ ap operates (sym (word-of (c .before .before .before .before .pre .1 .0) (c .before .current .ensures))) ∙ c .before .before .before .before .pre .1 .2))
 
   pub enum-told : lts.Need-enum-told cs (operation-at t) operation-reads.Post
   enum-told c = search needs
@@ -69,47 +65,47 @@ module _ (t : ℕ) where
   enum-told-3 c = search needs
 
   pub call-requires : lts.Need-call-requires cs (operation-at t) operation-reads.Post
-  call-requires c κs = (omega (arith, c .before .before .before .before .before .before .before .before .before .pre .0), c .before .before .before .before .before .before .before .before .before .pre .1)
+  call-requires c κs = (omega (arith, c .before .before .before .before .before .before .before .before .before .pre .0), (c .before .before .before .before .before .before .before .before .before .pre .1 .0, c .before .before .before .before .before .before .before .before .before .pre .1 .1))
 
   pub enum-told-4 : lts.Need-enum-told-4 cs (operation-at t) operation-reads.Post
   enum-told-4 c = search needs
 
   pub index-requires : lts.Need-index-requires cs (operation-at t) operation-reads.Post
-  index-requires c κs = (omega (arith, c .before .before .before .before .before .before .before .before .before .pre .0), c .before .before .before .before .before .before .before .before .before .pre .1)
+  index-requires c κs = (omega (arith, c .before .before .before .before .before .before .before .before .before .pre .0), (c .before .before .before .before .before .before .before .before .before .pre .1 .0, c .before .before .before .before .before .before .before .before .before .pre .1 .1))
 
-  pub infix-exp-requires-2 : lts.Need-infix-exp-requires-2 cs (operation-at t) operation-reads.Post
-  infix-exp-requires-2 c κs = (omega (arith, c .before .before .before .before .before .before .before .before .pre .0), c .before .before .before .before .before .before .before .before .pre .1)
+  pub infix-exp-requires : lts.Need-infix-exp-requires cs (operation-at t) operation-reads.Post
+  infix-exp-requires c κs = (omega (arith, c .before .before .before .before .before .before .before .before .pre .0), (c .before .before .before .before .before .before .before .before .pre .1 .0, c .before .before .before .before .before .before .before .before .pre .1 .1))
 
-  pub same-length-2 : lts.Need-same-length-2 cs (operation-at t) operation-reads.Post
-  same-length-2 c = search needs
+  pub same-length : lts.Need-same-length cs (operation-at t) operation-reads.Post
+  same-length c = search needs
 
   pub returns-2 : lts.Need-returns-2 cs (operation-at t) operation-reads.Post
   unfolding operation match choose suffix-expression
   returns-2 c = let p = c .before .before .put-row .ensures _ (c .before .before .before .before .before .before .before .before .before .before .before .before .pre .1 .0 .within) in (p .0, λ from t zs left s e. rw (word-of (c .before .before .before .before .before .before .before .before .before .before .before .before .pre .1 .0) (c .before .before .before .before .before .before .before .before .before .current .ensures), c .before .before .before .before .before .before .before .t .given .1, c .before .before .before .before .enum-told .given .1) (p .1 _ [] _ _ _ _ s (record { few = tt; root = of-node; refs = (e, refl, refl, refl) })))
 
-  pub same-length-3 : lts.Need-same-length-3 cs (operation-at t) operation-reads.Post
-  same-length-3 c = search needs
+  pub same-length-2 : lts.Need-same-length-2 cs (operation-at t) operation-reads.Post
+  same-length-2 c = search needs
 
   pub returns-3 : lts.Need-returns-3 cs (operation-at t) operation-reads.Post
   unfolding operation match choose suffix-expression
   returns-3 c = let p = c .before .before .put-row2 .ensures _ (c .before .before .before .before .before .before .before .before .before .before .before .before .pre .1 .0 .within) in (p .0, λ from t zs left s e. rw (word-of (c .before .before .before .before .before .before .before .before .before .before .before .before .pre .1 .0) (c .before .before .before .before .before .before .before .before .before .current .ensures), c .before .before .before .before .before .before .before .t .given .1, c .before .before .before .before .enum-told2 .given .1) (p .1 _ [] _ _ _ _ s (record { few = tt; root = of-node; refs = (e, refl, refl, refl) })))
 
-  pub same-length-4 : lts.Need-same-length-4 cs (operation-at t) operation-reads.Post
-  same-length-4 c = search needs
+  pub same-length-3 : lts.Need-same-length-3 cs (operation-at t) operation-reads.Post
+  same-length-3 c = search needs
 
   pub returns-4 : lts.Need-returns-4 cs (operation-at t) operation-reads.Post
   unfolding operation match choose
   returns-4 c = (c .before .before .call .ensures .0, λ from t zs left s e. rw (word-of (c .before .before .before .before .before .before .before .before .before .before .before .before .pre .1 .0) (c .before .before .before .before .before .before .before .before .before .current .ensures), c .before .before .before .before .before .before .before .t .given .1, c .before .before .before .before .enum-told3 .given .1) (c .before .before .call .ensures .1 _ _ _ _ s e))
 
-  pub same-length-5 : lts.Need-same-length-5 cs (operation-at t) operation-reads.Post
-  same-length-5 c = search needs
+  pub same-length-4 : lts.Need-same-length-4 cs (operation-at t) operation-reads.Post
+  same-length-4 c = search needs
 
   pub returns-5 : lts.Need-returns-5 cs (operation-at t) operation-reads.Post
   unfolding operation match choose
   returns-5 c = (c .before .before .index .ensures .0, λ from t zs left s e. rw (word-of (c .before .before .before .before .before .before .before .before .before .before .before .before .pre .1 .0) (c .before .before .before .before .before .before .before .before .before .current .ensures), c .before .before .before .before .before .before .before .t .given .1, c .before .before .before .before .enum-told4 .given .1) (c .before .before .index .ensures .1 _ _ _ _ s e))
 
-  pub same-length-6 : lts.Need-same-length-6 cs (operation-at t) operation-reads.Post
-  same-length-6 c = search needs
+  pub same-length-5 : lts.Need-same-length-5 cs (operation-at t) operation-reads.Post
+  same-length-5 c = search needs
 
   pub returns-6 : lts.Need-returns-6 cs (operation-at t) operation-reads.Post
-  returns-6 c = by-infix _ (word-of (c .before .before .before .before .before .before .before .before .before .before .before .pre .1 .0) (c .before .before .before .before .before .before .before .before .current .ensures)) (operator-arm others (but (5 ∷ 29 ∷ 30 ∷ 34 ∷ []) 41) (c .before .before .before .before .before .before .t .given .1) (c .before .before .before .before .match2 .keys5) refl) (c .before .before .infix-exp2 .ensures)
+  returns-6 c = by-infix _ (word-of (c .before .before .before .before .before .before .before .before .before .before .before .pre .1 .0) (c .before .before .before .before .before .before .before .before .current .ensures)) (operator-arm others (but (5 ∷ 29 ∷ 30 ∷ 34 ∷ []) 41) (c .before .before .before .before .before .before .t .given .1) (c .before .before .before .before .match2 .keys5) refl) (c .before .before .infix-exp .ensures)

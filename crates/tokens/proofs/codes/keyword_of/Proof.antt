@@ -1,0 +1,48 @@
+-- `tokens::keyword_of` meets its contract: each arm has the keyword at its number, and the last arm the last one. Assumes nothing.
+use Prim.Native.Nat.{_≤_, zero-le}
+use native.Mathlib.Omega.{arith}
+use mathlib.Core.Path.{_≡_}
+use borrow.Author.Needs.{needs}
+use Rattle.tokens.proofs.Tests.{past}
+use Rattle.tokens.proofs.codes.keyword_of.Statement.{statement}
+use Rattle.tokens.proofs.codes.keyword_of.Tie as tie
+
+last : tie.Need-returns-28
+last c =
+    let code = c .before .args .code in
+    let under : 27 ≤ code = past 0 27 code zero-le (c .match .rest) in
+    let is : code ≡ 27 = omega arith in
+    rw is
+
+pub keyword-of-spec : {M : Type 1} → statement M
+keyword-of-spec =
+    tie.close
+    (tie.spec
+    (λ c. search needs)
+    (λ c. search needs)
+    (λ c. search needs)
+    (λ c. search needs)
+    (λ c. search needs)
+    (λ c. search needs)
+    (λ c. search needs)
+    (λ c. search needs)
+    (λ c. search needs)
+    (λ c. search needs)
+    (λ c. search needs)
+    (λ c. search needs)
+    (λ c. search needs)
+    (λ c. search needs)
+    (λ c. search needs)
+    (λ c. search needs)
+    (λ c. search needs)
+    (λ c. search needs)
+    (λ c. search needs)
+    (λ c. search needs)
+    (λ c. search needs)
+    (λ c. search needs)
+    (λ c. search needs)
+    (λ c. search needs)
+    (λ c. search needs)
+    (λ c. search needs)
+    (λ c. search needs)
+    last)
