@@ -4,6 +4,7 @@ use super::names::*;
 use super::part::closed;
 use super::part::first_of;
 use super::part::leaf;
+use super::part::passed;
 use super::part::put_row;
 use answer::Read;
 use rows::Flag;
@@ -42,15 +43,13 @@ pub fn expression(
     }
     let less = allow - 1;
     let r = prefix_part(tokens, pool, first, c, less);
-    match r {
-        Read::Tree(k, h, d) => {
-            if words::next_symbol_is(tokens, d, Symbol::SSemiColon) {
-                return Read::Tree(k, h, words::iterate(tokens, d));
-            }
-            climb(tokens, pool, first, k, h, d, order, less)
-        }
-        Read::Refused(n, p) => Read::Refused(n, p),
+    let Read::Tree(k, h, d) = r else {
+        return passed(r);
+    };
+    if words::next_symbol_is(tokens, d, Symbol::SSemiColon) {
+        return Read::Tree(k, h, words::iterate(tokens, d));
     }
+    climb(tokens, pool, first, k, h, d, order, less)
 }
 
 // The match at the head of parse_expression.
@@ -453,20 +452,18 @@ fn climb(
     let mut d = c;
     while orders::goes_on(order, words::next(tokens, d)) {
         let r = operation(tokens, pool, first, k, h, words::iterate(tokens, d), less);
-        match r {
-            Read::Tree(m, g, e) => {
-                k = m;
-                h = g;
-                d = e;
-            }
-            Read::Refused(n, p) => return Read::Refused(n, p),
-        }
+        let Read::Tree(m, g, e) = r else {
+            return passed(r);
+        };
+        k = m;
+        h = g;
+        d = e;
     }
     Read::Tree(k, h, d)
 }
 
 // What an operator does behind its left side: the branches in the loop of parse_expression.
-// `climb` comes here with operators only. So `infix_exp` has one caller, and is compiled into it.
+// `climb` comes here with operators only, so the first branch is never taken; `infix_exp` has one caller, and is compiled into it.
 fn operation(
     tokens: &[u16],
     pool: &mut [u32],

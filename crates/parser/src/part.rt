@@ -100,3 +100,13 @@ pub fn first_of(rows: usize, head: u32, next: u32) -> u32
 {
     if rows == 0 { next } else { head }
 }
+
+// An answer made anew, for a refusal that is passed on often: as it is, the bytes between its fields would be copied too.
+pub fn passed(r: Read) -> Read
+    ensures { λ s. ⌜ s ≡ r ⌝ }
+{
+    match r {
+        Read::Tree(k, h, d) => Read::Tree(k, h, d),
+        Read::Refused(n, p) => Read::Refused(n, p),
+    }
+}

@@ -55,6 +55,7 @@ use Rattle.words.proofs.next_symbol_is.Reads as next-symbol-is-reads
 use Rattle.parser.proofs.expressions.operation.Reads as operation-reads
 use Rattle.orders.proofs.order_of.Reads as order-of-reads
 use Rattle.parser.proofs.expressions.pair.Reads as pair-reads
+use Rattle.parser.proofs.part.passed.Reads as passed-reads
 use Rattle.parser.proofs.expressions.prefix_part.Reads as prefix-part-reads
 use Rattle.parser.proofs.expressions.prefix.Reads as prefix-reads
 use Rattle.parser.proofs.part.put_row.Reads as put-row-reads
@@ -249,18 +250,19 @@ pub +around+array+at-keyword+at-operator+behind+call+climb+entries+expression+ha
     (call-needs.put-row-requires-2 t)
     (call-needs.same-length-3 t)
     (call-needs.returns-3 t))
-    (λ t. climb-lts.spec (next-reads.Asked, next-reads.Learnt, goes-on-reads.Asked, goes-on-reads.Learnt, iterate-reads.Asked, iterate-reads.Learnt, operation-below t, operation-reads.Post) (climb-at t) climb-reads.Post climb-needs.Inv-loop climb-needs.μ-loop
+    (λ t. climb-lts.spec (next-reads.Asked, next-reads.Learnt, goes-on-reads.Asked, goes-on-reads.Learnt, iterate-reads.Asked, iterate-reads.Learnt, operation-below t, operation-reads.Post, passed-reads.Asked, passed-reads.Learnt) (climb-at t) climb-reads.Post climb-needs.Inv-loop climb-needs.μ-loop
     (climb-needs.loop-holds t)
     (climb-needs.next-requires t)
     (climb-needs.goes-on-requires t)
     (climb-needs.iterate-requires t)
     (climb-needs.operation-requires t)
     (climb-needs.enum-known-r t)
-    (climb-needs.loop-less t)
-    (climb-needs.loop-again t)
-    (climb-needs.enum-known-r-2 t)
+    (climb-needs.enum-told t)
+    (climb-needs.passed-requires t)
     (climb-needs.same-length t)
     (climb-needs.returns t)
+    (climb-needs.loop-less t)
+    (climb-needs.loop-again t)
     (climb-needs.same-length-2 t)
     (climb-needs.returns-2 t))
     (λ t. entries-lts.spec (next-symbol-is-reads.Asked, next-symbol-is-reads.Learnt, iterate-reads.Asked, iterate-reads.Learnt, behind-below t, behind-reads.Post, link-reads.Asked, link-reads.Learnt, first-of-reads.Asked, first-of-reads.Learnt) (entries-at t) entries-reads.Post entries-needs.Inv-loop entries-needs.μ-loop
@@ -279,19 +281,20 @@ pub +around+array+at-keyword+at-operator+behind+call+climb+entries+expression+ha
     (entries-needs.loop-again t)
     (entries-needs.same-length-2 t)
     (entries-needs.returns-2 t))
-    (λ t. expression-lts.spec (prefix-part-below t, prefix-part-reads.Post, next-symbol-is-reads.Asked, next-symbol-is-reads.Learnt, iterate-reads.Asked, iterate-reads.Learnt, climb-below t, climb-reads.Post) (expression-at t) expression-reads.Post
+    (λ t. expression-lts.spec (prefix-part-below t, prefix-part-reads.Post, passed-reads.Asked, passed-reads.Learnt, next-symbol-is-reads.Asked, next-symbol-is-reads.Learnt, iterate-reads.Asked, iterate-reads.Learnt, climb-below t, climb-reads.Post) (expression-at t) expression-reads.Post
     (expression-needs.returns t)
     (expression-needs.sub-less t)
     (expression-needs.prefix-part-requires t)
     (expression-needs.enum-known-r t)
-    (expression-needs.next-symbol-is-requires t)
-    (expression-needs.iterate-requires t)
+    (expression-needs.enum-told t)
+    (expression-needs.passed-requires t)
     (expression-needs.same-length t)
     (expression-needs.returns-2 t)
-    (expression-needs.climb-requires t)
-    (expression-needs.enum-known-r-2 t)
+    (expression-needs.next-symbol-is-requires t)
+    (expression-needs.iterate-requires t)
     (expression-needs.same-length-2 t)
     (expression-needs.returns-3 t)
+    (expression-needs.climb-requires t)
     (expression-needs.same-length-3 t)
     (expression-needs.returns-4 t))
     (λ t. hash-lts.spec (iterate-reads.Asked, iterate-reads.Learnt, next-symbol-is-reads.Asked, next-symbol-is-reads.Learnt, put-row-reads.Asked, put-row-reads.Learnt, pair-below t, pair-reads.Post, entries-below t, entries-reads.Post, closed-reads.Asked, closed-reads.Learnt) (hash-at t) hash-reads.Post

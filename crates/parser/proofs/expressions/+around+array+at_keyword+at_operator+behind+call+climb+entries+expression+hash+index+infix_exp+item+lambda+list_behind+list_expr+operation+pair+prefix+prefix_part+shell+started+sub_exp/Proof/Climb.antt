@@ -11,7 +11,7 @@ use Rattle.grammar.specs.Expressions.{expression, climb}
 use Rattle.tokens.specs.Tokens.{word}
 use Rattle.tokens.proofs.Round.{word-token}
 use Rattle.parser.specs.Meets.{Stands, one}
-use Rattle.parser.proofs.Answers.{bounds, bounded-tree, bounded-refused, told, taken, pass, by-eq, choose-true, choose-false, then-read}
+use Rattle.parser.proofs.Answers.{bounds, bounded-tree, bounded-told, told, taken, pass, by-eq, choose-true, choose-false, then-read}
 use Rattle.parser.proofs.Loops.{Turning, starts, stops, turns-on}
 use Rattle.parser.proofs.Moves.{falls, goes-onward, operates-on, le-trans, on-step, ready-same, ready-step, stands-step}
 use borrow.Author.Needs.{needs}
@@ -20,6 +20,7 @@ use Rattle.orders.proofs.goes_on.Reads as goes-on-reads
 use Rattle.words.proofs.iterate.Reads as iterate-reads
 use Rattle.words.proofs.next.Reads as next-reads
 use Rattle.parser.proofs.expressions.operation.Reads as operation-reads
+use Rattle.parser.proofs.part.passed.Reads as passed-reads
 use Rattle.parser.proofs.expressions.+around+array+at_keyword+at_operator+behind+call+climb+entries+expression+hash+index+infix_exp+item+lambda+list_behind+list_expr+operation+pair+prefix+prefix_part+shell+started+sub_exp.Lts-climb as lts
 use Rattle.parser.proofs.expressions.+around+array+at_keyword+at_operator+behind+call+climb+entries+expression+hash+index+infix_exp+item+lambda+list_behind+list_expr+operation+pair+prefix+prefix_part+shell+started+sub_exp.Proof.Measures.{climb-at, operation-below}
 
@@ -40,7 +41,7 @@ abbrev pub μ-loop : lts.MeasureT-loop
 
 module _ (t : ℕ) where
   abbrev cs : lts.Claims
-  cs = (next-reads.Asked, next-reads.Learnt, goes-on-reads.Asked, goes-on-reads.Learnt, iterate-reads.Asked, iterate-reads.Learnt, operation-below t, operation-reads.Post)
+  cs = (next-reads.Asked, next-reads.Learnt, goes-on-reads.Asked, goes-on-reads.Learnt, iterate-reads.Asked, iterate-reads.Learnt, operation-below t, operation-reads.Post, passed-reads.Asked, passed-reads.Learnt)
 
   pub loop-holds : lts.Need-loop-holds cs (climb-at t) climb-reads.Post Inv-loop μ-loop
   loop-holds c =
@@ -62,6 +63,21 @@ module _ (t : ℕ) where
   pub enum-known-r : lts.Need-enum-known-r cs (climb-at t) climb-reads.Post Inv-loop μ-loop
   enum-known-r c = search needs
 
+  pub enum-told : lts.Need-enum-told cs (climb-at t) climb-reads.Post Inv-loop μ-loop
+  enum-told c = search needs
+
+  pub passed-requires : lts.Need-passed-requires cs (climb-at t) climb-reads.Post Inv-loop μ-loop
+  passed-requires c κs = search needs
+
+  pub same-length : lts.Need-same-length cs (climb-at t) climb-reads.Post Inv-loop μ-loop
+  same-length c = c .before .before .before .before .before .operation .kept .1 .0 ∙ c .before .before .before .before .before .before .before .before .before .before .before .loop .inv .same
+
+  pub returns : lts.Need-returns cs (climb-at t) climb-reads.Post Inv-loop μ-loop
+  unfolding climb
+  returns c =
+      (bounded-told (c .passed .ensures ∙ c .before .enum-told .given .1), λ from t zs left s e. let w = c .before .before .before .before .before .before .before .before .before .before .before .loop .inv .state from t zs left s e in
+      by-eq (w .eq ∙ choose-true _ _ (ap (goes-on _) (sym (ap word (c .before .before .before .before .before .before .before .before .before .before .next .ensures) ∙ word-token _ (c .before .before .before .before .before .before .before .before .before .before .before .before .before .before .pre .1 .0 .sound .good (step (c .before .before .before .before .before .before .before .before .before .before .before .before .before .before .args .tokens .now) (c .before .before .before .before .before .before .before .before .before .before .before .loop .d))))) ∙ sym (c .before .before .before .before .before .before .before .before .before .goes-on .ensures) ∙ c .before .before .before .before .before .before .before .before .if1 .taken)) (rw (← (c .before .before .before .before .before .before .iterate .ensures)) (told (sym (c .passed .ensures)) (pass _ (c .before .before .before .before .before .operation .ensures .1 _ _ _ _ (stands-step _ _ (c .before .before .before .before .before .before .iterate .ensures) (w .stands)) (w .head)) (c .before .enum-told .given .1)))))
+
   pub loop-less : lts.Need-loop-less cs (climb-at t) climb-reads.Post Inv-loop μ-loop
   loop-less c = let b = bounds (c .before .before .before .before .before .operation .ensures .0) (c .before .r .given .1) in omega (arith, b .on, b .within, goes-onward _ (c .before .before .before .before .before .before .before .before .before .before .before .before .before .before .pre .1 .0 .sound) (c .before .before .before .before .before .before .before .before .before .before .before .loop .inv .within) (ap (goes-on _) (sym (ap word (c .before .before .before .before .before .before .before .before .before .before .next .ensures) ∙ word-token _ (c .before .before .before .before .before .before .before .before .before .before .before .before .before .before .pre .1 .0 .sound .good (step (c .before .before .before .before .before .before .before .before .before .before .before .before .before .before .args .tokens .now) (c .before .before .before .before .before .before .before .before .before .before .before .loop .d))))) ∙ sym (c .before .before .before .before .before .before .before .before .before .goes-on .ensures) ∙ c .before .before .before .before .before .before .before .before .if1 .taken), c .before .before .before .before .before .before .iterate .ensures)
 
@@ -75,30 +91,14 @@ module _ (t : ℕ) where
         on = le-trans (c .before .before .before .before .before .before .before .before .before .before .before .loop .inv .on) (le-trans (on-step _ _ (c .before .before .before .before .before .before .iterate .ensures)) (b .on));
         within = b .within;
         state = λ from t zs left s e. let w = c .before .before .before .before .before .before .before .before .before .before .before .loop .inv .state from t zs left s e in let q = taken (c .before .before .before .before .before .operation .ensures .1 _ _ _ _ (stands-step _ _ (c .before .before .before .before .before .before .iterate .ensures) (w .stands)) (w .head)) (c .before .r .given .1) in
-            turns-on w _ _ (choose-true _ _ (ap (goes-on _) (sym (ap word (c .before .before .before .before .before .before .before .before .before .before .next .ensures) ∙ word-token _ (c .before .before .before .before .before .before .before .before .before .before .before .before .before .before .pre .1 .0 .sound .good (step (c .before .before .before .before .before .before .before .before .before .before .before .before .before .before .args .tokens .now) (c .before .before .before .before .before .before .before .before .before .before .before .loop .d))))) ∙ sym (c .before .before .before .before .before .before .before .before .before .goes-on .ensures) ∙ c .before .before .before .before .before .before .before .before .if1 .taken) ∙ rw (← (c .before .before .before .before .before .before .iterate .ensures)) (then-read _ (q .eq))) (omega (arith, b .on, goes-onward _ (c .before .before .before .before .before .before .before .before .before .before .before .before .before .before .pre .1 .0 .sound) (c .before .before .before .before .before .before .before .before .before .before .before .loop .inv .within) (ap (goes-on _) (sym (ap word (c .before .before .before .before .before .before .before .before .before .before .next .ensures) ∙ word-token _ (c .before .before .before .before .before .before .before .before .before .before .before .before .before .before .pre .1 .0 .sound .good (step (c .before .before .before .before .before .before .before .before .before .before .before .before .before .before .args .tokens .now) (c .before .before .before .before .before .before .before .before .before .before .before .loop .d))))) ∙ sym (c .before .before .before .before .before .before .before .before .before .goes-on .ensures) ∙ c .before .before .before .before .before .before .before .before .if1 .taken), c .before .before .before .before .before .before .iterate .ensures)) (q .head) (q .stands);
+        turns-on w _ _ (choose-true _ _ (ap (goes-on _) (sym (ap word (c .before .before .before .before .before .before .before .before .before .before .next .ensures) ∙ word-token _ (c .before .before .before .before .before .before .before .before .before .before .before .before .before .before .pre .1 .0 .sound .good (step (c .before .before .before .before .before .before .before .before .before .before .before .before .before .before .args .tokens .now) (c .before .before .before .before .before .before .before .before .before .before .before .loop .d))))) ∙ sym (c .before .before .before .before .before .before .before .before .before .goes-on .ensures) ∙ c .before .before .before .before .before .before .before .before .if1 .taken) ∙ rw (← (c .before .before .before .before .before .before .iterate .ensures)) (then-read _ (q .eq))) (omega (arith, b .on, goes-onward _ (c .before .before .before .before .before .before .before .before .before .before .before .before .before .before .pre .1 .0 .sound) (c .before .before .before .before .before .before .before .before .before .before .before .loop .inv .within) (ap (goes-on _) (sym (ap word (c .before .before .before .before .before .before .before .before .before .before .next .ensures) ∙ word-token _ (c .before .before .before .before .before .before .before .before .before .before .before .before .before .before .pre .1 .0 .sound .good (step (c .before .before .before .before .before .before .before .before .before .before .before .before .before .before .args .tokens .now) (c .before .before .before .before .before .before .before .before .before .before .before .loop .d))))) ∙ sym (c .before .before .before .before .before .before .before .before .before .goes-on .ensures) ∙ c .before .before .before .before .before .before .before .before .if1 .taken), c .before .before .before .before .before .before .iterate .ensures)) (q .head) (q .stands)
       }
-
-  pub enum-known-r-2 : lts.Need-enum-known-r-2 cs (climb-at t) climb-reads.Post Inv-loop μ-loop
-  enum-known-r-2 c = search needs
-
-  pub same-length : lts.Need-same-length cs (climb-at t) climb-reads.Post Inv-loop μ-loop
-  same-length c = c .before .before .before .before .before .operation .kept .1 .0 ∙ c .before .before .before .before .before .before .before .before .before .before .before .loop .inv .same
-
-  pub returns : lts.Need-returns cs (climb-at t) climb-reads.Post Inv-loop μ-loop
-  unfolding climb
-  returns c = (
-    bounded-refused _ _,
-    λ from t zs left s e. let w = c .before .before .before .before .before .before .before .before .before .before .before .loop .inv .state from t zs left s e in
-        by-eq (w .eq ∙ choose-true _ _ (ap (goes-on _) (sym (ap word (c .before .before .before .before .before .before .before .before .before .before .next .ensures) ∙ word-token _ (c .before .before .before .before .before .before .before .before .before .before .before .before .before .before .pre .1 .0 .sound .good (step (c .before .before .before .before .before .before .before .before .before .before .before .before .before .before .args .tokens .now) (c .before .before .before .before .before .before .before .before .before .before .before .loop .d))))) ∙ sym (c .before .before .before .before .before .before .before .before .before .goes-on .ensures) ∙ c .before .before .before .before .before .before .before .before .if1 .taken)) (rw (← (c .before .before .before .before .before .before .iterate .ensures)) (told (c .before .r2 .given .1) (pass _ (c .before .before .before .before .before .operation .ensures .1 _ _ _ _ (stands-step _ _ (c .before .before .before .before .before .before .iterate .ensures) (w .stands)) (w .head)) (c .before .r2 .given .1)))),
-  )
 
   pub same-length-2 : lts.Need-same-length-2 cs (climb-at t) climb-reads.Post Inv-loop μ-loop
   same-length-2 c = c .before .before .before .loop .inv .same
 
   pub returns-2 : lts.Need-returns-2 cs (climb-at t) climb-reads.Post Inv-loop μ-loop
   unfolding climb
-  returns-2 c = (
-    bounded-tree (omega (arith, c .before .before .before .loop .inv .fit, c .before .before .before .loop .inv .same)) (c .before .before .before .loop .inv .on) (c .before .before .before .loop .inv .within),
-    λ from t zs left s e. let w = c .before .before .before .loop .inv .state from t zs left s e in
-        stops w _ refl (choose-false _ _ (ap (goes-on _) (sym (ap word (c .before .before .next .ensures) ∙ word-token _ (c .before .before .before .before .before .before .pre .1 .0 .sound .good (step (c .before .before .before .before .before .before .args .tokens .now) (c .before .before .before .loop .d))))) ∙ sym (c .before .goes-on .ensures) ∙ c .if1 .left)),
-  )
+  returns-2 c =
+      (bounded-tree (omega (arith, c .before .before .before .loop .inv .fit, c .before .before .before .loop .inv .same)) (c .before .before .before .loop .inv .on) (c .before .before .before .loop .inv .within), λ from t zs left s e. let w = c .before .before .before .loop .inv .state from t zs left s e in
+      stops w _ refl (choose-false _ _ (ap (goes-on _) (sym (ap word (c .before .before .next .ensures) ∙ word-token _ (c .before .before .before .before .before .before .pre .1 .0 .sound .good (step (c .before .before .before .before .before .before .args .tokens .now) (c .before .before .before .loop .d))))) ∙ sym (c .before .goes-on .ensures) ∙ c .if1 .left)))

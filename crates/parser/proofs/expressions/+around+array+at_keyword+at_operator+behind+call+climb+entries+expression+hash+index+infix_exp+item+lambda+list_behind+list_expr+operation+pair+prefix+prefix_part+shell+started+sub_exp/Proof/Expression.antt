@@ -13,6 +13,7 @@ use Rattle.parser.proofs.expressions.climb.Reads as climb-reads
 use Rattle.parser.proofs.expressions.expression.Reads as expression-reads
 use Rattle.words.proofs.iterate.Reads as iterate-reads
 use Rattle.words.proofs.next_symbol_is.Reads as next-symbol-is-reads
+use Rattle.parser.proofs.part.passed.Reads as passed-reads
 use Rattle.parser.proofs.expressions.prefix_part.Reads as prefix-part-reads
 use Rattle.parser.proofs.expressions.+around+array+at_keyword+at_operator+behind+call+climb+entries+expression+hash+index+infix_exp+item+lambda+list_behind+list_expr+operation+pair+prefix+prefix_part+shell+started+sub_exp.Lts-expression as lts
 use Rattle.parser.proofs.expressions.+around+array+at_keyword+at_operator+behind+call+climb+entries+expression+hash+index+infix_exp+item+lambda+list_behind+list_expr+operation+pair+prefix+prefix_part+shell+started+sub_exp.Proof.Measures.{expression-at, climb-below, prefix-part-below}
@@ -30,7 +31,7 @@ one-less ts (suc d) order at room n = rw sub-one
 
 module _ (t : ℕ) where
   abbrev cs : lts.Claims
-  cs = (prefix-part-below t, prefix-part-reads.Post, next-symbol-is-reads.Asked, next-symbol-is-reads.Learnt, iterate-reads.Asked, iterate-reads.Learnt, climb-below t, climb-reads.Post)
+  cs = (prefix-part-below t, prefix-part-reads.Post, passed-reads.Asked, passed-reads.Learnt, next-symbol-is-reads.Asked, next-symbol-is-reads.Learnt, iterate-reads.Asked, iterate-reads.Learnt, climb-below t, climb-reads.Post)
 
   pub returns : lts.Need-returns cs (expression-at t) expression-reads.Post
   returns c = refuses _ _ _ (too-deep _ _ _ _ _ (c .if1 .taken))
@@ -44,39 +45,42 @@ module _ (t : ℕ) where
   pub enum-known-r : lts.Need-enum-known-r cs (expression-at t) expression-reads.Post
   enum-known-r c = search needs
 
+  pub enum-told : lts.Need-enum-told cs (expression-at t) expression-reads.Post
+  enum-told c = search needs
+
+  pub passed-requires : lts.Need-passed-requires cs (expression-at t) expression-reads.Post
+  passed-requires c κs = search needs
+
+  pub same-length : lts.Need-same-length cs (expression-at t) expression-reads.Post
+  same-length c = c .before .before .before .before .before .prefix-part .kept .1 .0
+
+  pub returns-2 : lts.Need-returns-2 cs (expression-at t) expression-reads.Post
+  unfolding level
+  returns-2 c = by-eq (one-less _ _ _ _ _ (c .before .before .before .before .before .before .before .if1 .left)) (told (sym (c .passed .ensures)) (pass _ (c .before .before .before .before .before .prefix-part .ensures) (c .before .enum-told .given .1)))
+
   pub next-symbol-is-requires : lts.Need-next-symbol-is-requires cs (expression-at t) expression-reads.Post
   next-symbol-is-requires c κs = search needs
 
   pub iterate-requires : lts.Need-iterate-requires cs (expression-at t) expression-reads.Post
   iterate-requires c κs = search needs
 
-  pub same-length : lts.Need-same-length cs (expression-at t) expression-reads.Post
-  same-length c = c .before .before .before .before .before .before .before .before .prefix-part .kept .1 .0
+  pub same-length-2 : lts.Need-same-length-2 cs (expression-at t) expression-reads.Post
+  same-length-2 c = c .before .before .before .before .before .before .before .before .prefix-part .kept .1 .0
 
-  pub returns-2 : lts.Need-returns-2 cs (expression-at t) expression-reads.Post
+  pub returns-3 : lts.Need-returns-3 cs (expression-at t) expression-reads.Post
   unfolding level
-  returns-2 c = let h = taken (c .before .before .before .before .before .before .before .before .prefix-part .ensures) (c .before .before .before .before .r .given .1) in by-eq (one-less _ _ _ _ _ (c .before .before .before .before .before .before .before .before .before .before .if1 .left) ∙ then-read _ (h .eq) ∙ choose-true _ _ (sym (c .before .before .next-symbol-is .ensures) ∙ c .before .if2 .taken)) (rw (← (c .iterate .ensures)) (read-on (h .head) (stands-step _ _ (c .iterate .ensures) (h .stands))))
+  returns-3 c = let h = taken (c .before .before .before .before .before .before .before .before .prefix-part .ensures) (c .before .before .before .before .r .given .1) in by-eq (one-less _ _ _ _ _ (c .before .before .before .before .before .before .before .before .before .before .if1 .left) ∙ then-read _ (h .eq) ∙ choose-true _ _ (sym (c .before .before .next-symbol-is .ensures) ∙ c .before .if2 .taken)) (rw (← (c .iterate .ensures)) (read-on (h .head) (stands-step _ _ (c .iterate .ensures) (h .stands))))
 
   pub climb-requires : lts.Need-climb-requires cs (expression-at t) expression-reads.Post
   climb-requires c κs =
       let h = taken (c .before .before .before .before .before .before .before .before .prefix-part .ensures) (c .before .before .before .before .r .given .1) in
       (omega (arith, c .before .before .before .before .before .before .before .before .before .before .before .before .before .pre .0, c .before .before .before .before .before .before .before .before .before .before .if1 .left, h .stands .on), (ready-same (c .before .before .before .before .before .before .before .before .before .before .before .before .before .pre .1) (c .before .before .before .before .before .before .before .before .prefix-part .kept .1 .0) (h .stands .within), front-le (h .stands .front)))
 
-  pub enum-known-r-2 : lts.Need-enum-known-r-2 cs (expression-at t) expression-reads.Post
-  enum-known-r-2 c = search needs
-
-  pub same-length-2 : lts.Need-same-length-2 cs (expression-at t) expression-reads.Post
-  same-length-2 c = c .before .before .climb .kept .1 .0 ∙ c .before .before .before .before .before .before .before .before .before .before .before .prefix-part .kept .1 .0
-
-  pub returns-3 : lts.Need-returns-3 cs (expression-at t) expression-reads.Post
-  unfolding level
-  returns-3 c =
-      let h = taken (c .before .before .before .before .before .before .before .before .before .before .before .prefix-part .ensures) (c .before .before .before .before .before .before .before .r .given .1) in
-      by-eq (one-less _ _ _ _ _ (c .before .before .before .before .before .before .before .before .before .before .before .before .before .if1 .left) ∙ then-read _ (h .eq) ∙ choose-false _ _ (sym (c .before .before .before .before .before .next-symbol-is .ensures) ∙ c .before .before .before .before .if2 .left)) (c .before .before .climb .ensures .1 _ _ _ _ (h .stands) (h .head))
-
   pub same-length-3 : lts.Need-same-length-3 cs (expression-at t) expression-reads.Post
-  same-length-3 c = c .before .before .before .before .before .prefix-part .kept .1 .0
+  same-length-3 c = c .before .before .climb .kept .1 .0 ∙ c .before .before .before .before .before .before .before .before .before .before .before .prefix-part .kept .1 .0
 
   pub returns-4 : lts.Need-returns-4 cs (expression-at t) expression-reads.Post
   unfolding level
-  returns-4 c = by-eq (one-less _ _ _ _ _ (c .before .before .before .before .before .before .before .if1 .left)) (told (c .before .r2 .given .1) (pass _ (c .before .before .before .before .before .prefix-part .ensures) (c .before .r2 .given .1)))
+  returns-4 c =
+      let h = taken (c .before .before .before .before .before .before .before .before .before .before .before .prefix-part .ensures) (c .before .before .before .before .before .before .before .r .given .1) in
+      by-eq (one-less _ _ _ _ _ (c .before .before .before .before .before .before .before .before .before .before .before .before .before .if1 .left) ∙ then-read _ (h .eq) ∙ choose-false _ _ (sym (c .before .before .before .before .before .next-symbol-is .ensures) ∙ c .before .before .before .before .if2 .left)) (c .before .before .climb .ensures .1 _ _ _ _ (h .stands) (h .head))
