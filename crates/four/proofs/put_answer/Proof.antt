@@ -1,7 +1,7 @@
--- `exports::put_answer` meets its contract: each case has its four words.
+-- `four::put_answer` meets its contract: each case has its four words.
 use borrow.Author.Needs.{needs}
-use Rattle.exports.proofs.put_answer.Statement.{statement}
-use Rattle.exports.proofs.put_answer.Tie as tie
+use Rattle.four.proofs.put_answer.Statement.{statement}
+use Rattle.four.proofs.put_answer.Tie as tie
 
 enum-known-outcome : tie.Need-enum-known-outcome
 enum-known-outcome c = search needs

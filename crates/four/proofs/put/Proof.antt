@@ -1,12 +1,12 @@
--- `exports::put` meets its contract: its four stores are the four words in front.
+-- `four::put` meets its contract: its four stores are the four words in front.
 use Prim.Native.Nat.{ℕ}
 use mathlib.Core.Path.{_≡_, refl}
 use mathlib.Core.List.{List, [], _∷_}
 use lib.ListN.{set}
 use borrow.Author.Needs.{needs}
-use Rattle.exports.specs.Answers.{over}
-use Rattle.exports.proofs.put.Statement.{statement}
-use Rattle.exports.proofs.put.Tie as tie
+use Rattle.four.specs.Answers.{over}
+use Rattle.four.proofs.put.Statement.{statement}
+use Rattle.four.proofs.put.Tie as tie
 
 -- four words stored one after the other
 stored : (a b c d : ℕ) (slice : List ℕ) → set (set (set (set slice 0 a) 1 b) 2 c) 3 d ≡ over (a ∷ b ∷ c ∷ d ∷ []) slice
@@ -40,7 +40,7 @@ returns c =
     let first = second .before .before .before .before in
     let a = first .before .before .before .args in
     rw (fourth .put-word4 .ensures, third .put-word3 .ensures, second .put-word2 .ensures, first .put-word .ensures)
-    (stored (a .first) (a .second) (a .third) (a .fourth) (a .answer .now))
+    (stored (a .first) (a .second) (a .third) (a .fourth) (a .words .now))
 
 pub put-spec : {M : Type 1} → statement M
 put-spec =

@@ -1,2 +1,0 @@
--- The definitions that the contracts of `exports` cite.
-pub mod Answers

@@ -1,0 +1,51 @@
+-- `four::put_fields` meets its contract: each case has its four words.
+use borrow.Author.Needs.{needs}
+use Rattle.four.proofs.put_fields.Statement.{statement}
+use Rattle.four.proofs.put_fields.Tie as tie
+
+enum-known-fields : tie.Need-enum-known-fields
+enum-known-fields c = search needs
+
+put-requires : tie.Need-put-requires
+put-requires c κs = search needs
+
+enum-known-fields-2 : tie.Need-enum-known-fields-2
+enum-known-fields-2 c = search needs
+
+cast-put : tie.Need-cast-put
+cast-put c = search needs
+
+put-requires-2 : tie.Need-put-requires-2
+put-requires-2 c κs = search needs
+
+same-length : tie.Need-same-length
+same-length c = search needs
+
+returns : tie.Need-returns
+returns c =
+    let at-put = c .before .before in
+    let known = at-put .before .before .before in
+    rw (known .fields .given .1) (at-put .put .ensures)
+
+same-length-2 : tie.Need-same-length-2
+same-length-2 c = search needs
+
+returns-2 : tie.Need-returns-2
+returns-2 c =
+    let at-put = c .before .before in
+    let known = at-put .before .before .before in
+    rw (known .fields2 .given .1) (at-put .put2 .ensures)
+
+pub put-fields-spec : {M : Type 1} → statement M
+put-fields-spec =
+    tie.close
+    (tie.spec
+    enum-known-fields
+    put-requires
+    enum-known-fields-2
+    cast-put
+    put-requires-2
+    same-length
+    returns
+    same-length-2
+    returns-2)

@@ -1,0 +1,2 @@
+-- The definitions that the contracts of `four` cite.
+pub mod Answers
