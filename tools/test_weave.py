@@ -226,30 +226,30 @@ class Goals(Case):
 
 class Answers(Case):
     def test_head_and_answers(self):
-        head, given = self.answered("-- Comment.\nuse a.{b}\n----\n\nreturns c =\n    b\n    (c@pre)\n\nnext c = b\n")
+        head, _, given = self.answered("-- Comment.\nuse a.{b}\n----\n\nreturns c =\n    b\n    (c@pre)\n\nnext c = b\n")
         self.assertEqual(head, "-- Comment.\nuse a.{b}")
         self.assertEqual(given, {"returns": ("", "returns c =\n    b\n    (c@pre)"), "next": ("", "next c = b")})
 
     def test_the_bar_is_a_line_of_its_own(self):
         self.refused("no line `----`", self.answered, "-- Comment ----\nreturns c = b\n")
         self.assertEqual(self.answered("-- One ----\n-- Two\n----\n")[0], "-- One ----\n-- Two")
-        self.assertEqual(self.answered("-- One\n----"), ("-- One", {}))
+        self.assertEqual(self.answered("-- One\n----"), ("-- One", {}, {}))
 
     def test_two_answers_are_refused(self):
         self.refused("two answers to returns", self.answered, "----\nreturns c = a\nreturns c = b\n")
 
     def test_unfolding_is_of_the_next_answer(self):
-        given = self.answered("----\nunfolding f g\nreturns c = a\nnext c = b\n")[1]
+        given = self.answered("----\nunfolding f g\nreturns c = a\nnext c = b\n")[2]
         self.assertEqual(given, {"returns": ("unfolding f g", "returns c = a"), "next": ("", "next c = b")})
 
     def test_unfolding_of_nothing_is_refused(self):
-        for below in "", "unfolding g\nreturns c = a\n", "%A = a\nreturns c = a\n":
+        for below in "", "unfolding g\nreturns c = a\n", "%A = a\nreturns c = a\n", "fact f at x : A = a\n":
             self.refused("no answer below `unfolding f`", self.answered, "----\nunfolding f\n" + below)
 
     def test_macros(self):
         text = "----\n%I = c@iterate .ensures\nreturns c = on ($W) $I\n%W = within\n    _ ($I)\n"
         expected = "returns c = on (within\n    _ (c@iterate .ensures)) c@iterate .ensures"
-        self.assertEqual(self.answered(text)[1], {"returns": ("", expected)})
+        self.assertEqual(self.answered(text)[2], {"returns": ("", expected)})
 
     def test_macros_that_are_refused(self):
         self.refused("$J is nowhere defined", self.answered, "----\n%I = a\nreturns c = $J\n")
@@ -258,7 +258,17 @@ class Answers(Case):
 
     def test_comments_between_and_in_answers_are_left_out(self):
         text = "----\n-- on both\nreturns c =\n-- on b\n    b\n-- the end\n"
-        self.assertEqual(self.answered(text)[1], {"returns": ("", "returns c =\n    b")})
+        self.assertEqual(self.answered(text)[2], {"returns": ("", "returns c =\n    b")})
+
+    def test_facts(self):
+        facts = self.answered("----\n%B = (b c@x)\nfact here at r : One = one (a) $B\nfact there at q : f a ≡ b =\n    c@here .eq\n")[1]
+        shown = [(f.name, f.field, f.type, f.proof) for f in facts.values()]
+        here = ("here", "r", "One (a) (b c@x)", "one (a) (b c@x)")
+        self.assertEqual(shown, [here, ("there", "q", "f a ≡ b", "c@here .eq")])
+
+    def test_facts_that_are_refused(self):
+        self.refused("two facts f", self.answered, "----\nfact f at x : A = a\nfact f at y : A = a\n")
+        self.refused("no `fact NAME at FIELD : TYPE = PROOF`", self.answered, "----\nfact f at x = a\n")
 
 
 class Paths(Case):
@@ -273,6 +283,12 @@ class Paths(Case):
     def test_the_nearest_has_the_name(self):
         places = {"A": {"x": "X"}, "B": {"before": "A", "x": "X", "x2": "X"}}
         self.assertEqual(weave.paths("c@x c@x2", places, "B", ""), "c .x c .x2")
+
+    def test_facts_are_applied_to_their_places(self):
+        facts = self.answered("----\nfact near at put-row : A = a\nfact far at pre : A = a\n")[1]
+        text = weave.paths("c@near .x (c@far) c@pre", PLACES, "After-put-row", "", facts)
+        self.assertEqual(text, "near c .x (far (c .before .before)) c .before .before .pre")
+        self.refused("no near on the way", weave.paths, "c@near", PLACES, "After-slice-known", "", facts)
 
     def test_unknown_names_are_refused(self):
         place = "After-slice-known"
@@ -409,6 +425,13 @@ class Singles(Case):
         self.assertIn("\nloop-holds : tie.Need-loop-holds Inv-loop μ-loop\nloop-holds c = search needs\n", text)
         self.assertIn("\npub for-each-spec : ", text)
         self.assertTrue(text.endswith("(tie.spec\n    Inv-loop\n    μ-loop\n    loop-holds)\n"))
+
+    def test_a_function_with_a_fact(self):
+        self.put_leaf("")
+        text = self.woven(text="----\nfact far at slice-known : A c@pre = a c@pre\nreturns c = c@far\n")["part/leaf/Proof.antt"]
+        self.assertIn("\nfar : (c : tie.After-slice-known) → A c .before .pre\nfar c = a c .before .pre\n", text)
+        self.assertIn("\nreturns c = far (c .before)\n", text)
+        self.refused("0 places have row, where the fact f", self.woven, "part/leaf", "----\nfact f at row : A = a\n")
 
     def test_what_is_refused(self):
         self.put_leaf("")
@@ -554,6 +577,12 @@ class Cycles(Case):
         over = "cs (odd-one-at t) odd-one-reads.Post Inv-loop μ-loop"
         self.assertIn(f"  pub loop-holds : lts.Need-loop-holds {over}\n  loop-holds c = search needs\n", text)
         self.assertIn("Measures.{odd-one-at, even-below}\n", text)
+
+    def test_a_member_with_a_fact(self):
+        text = self.member("----\nfact far at slice-known : A = a\nreturns c = c@far .x\n")
+        over = "cs (even-at t) even-reads.Post"
+        self.assertIn(f"\n  far : (c : lts.After-slice-known {over}) → A\n  far c = a\n", text)
+        self.assertIn("\n  returns c = far (c .before) .x\n", text)
 
     def test_a_member_without_answers_has_holes(self):
         text = self.member()

@@ -44,6 +44,11 @@ taken {A} {slot} {ts} {from} {P} {ss} {first} {r} {xs} {ys} {k} {h} {c} m e = go
           stands = rw (← rows, ← place) (g .stands);
         }
 
+-- The same as a type, by the proofs that it is told from.
+abbrev pub TakenOf : {A : Type 0} {slot : A → Trees} {ts : List ℕ} {from : ℕ} {P : Parsed A} {ss : List Trees} {first : ℕ} {r : Read} {xs ys : List ℕ} {k h : ℕ} {c : ℕ}
+    → Meets slot ts from P ss first r xs ys → r ≡ the.Tree k h c → Type 0
+TakenOf {A} {slot} {ts} {from} {P} {ss} {first} {r} {xs} {ys} {k} {h} {c} m e = Taken slot ts from P ss first k h c xs ys
+
 -- A refusal is passed on.
 pub pass : {A B : Type 0} {slot : A → Trees} {slot′ : B → Trees} {ts : List ℕ} {from : ℕ} {P : Parsed A} {ss : List Trees} {first : ℕ} {r : Read} {xs ys : List ℕ} {n p : ℕ}
     {ts′ : List ℕ} {from′ : ℕ} {ss′ : List Trees} {first′ : ℕ} {xs′ ys′ : List ℕ} (f : A × ℕ × ℕ → Parsed B)

@@ -5,11 +5,14 @@ use native.Mathlib.Omega.{arith}
 use Rattle.grammar.specs.Script.{nesting}
 use Rattle.parser.specs.Entries.{script}
 use Rattle.parser.specs.Meets.{of-node}
-use Rattle.parser.proofs.Answers.{no-list, taken, pass, by-eq, then-read}
+use Rattle.parser.proofs.Answers.{no-list, taken, TakenOf, pass, by-eq, then-read}
 use Rattle.parser.proofs.Moves.{fits-same}
 use borrow.Author.Needs.{needs}
 use Rattle.parser.proofs.script.Statement.{statement}
 use Rattle.parser.proofs.script.Tie as tie
+
+read-1 : (c : tie.After-r) → TakenOf (c .before .before .before .before .statements .ensures .1 _ _ _ _ (no-list _ _ (c .before .before .before .before .before .before .before .before .pre .within)) refl) (c .r .given .1)
+read-1 c = taken (c .before .before .before .before .statements .ensures .1 _ _ _ _ (no-list _ _ (c .before .before .before .before .before .before .before .before .pre .within)) refl) (c .r .given .1)
 
 statements-requires : tie.Need-statements-requires
 statements-requires c κs = (c .before .before .before .pre, omega arith)
@@ -36,9 +39,8 @@ same-length-2 c = c .before .before .put-row .kept .0 ∙ c .before .before .bef
 returns-2 : tie.Need-returns-2
 unfolding script nesting
 returns-2 c =
-    let h = taken (c .before .before .before .before .before .before .before .before .before .statements .ensures .1 _ _ _ _ (no-list _ _ (c .before .before .before .before .before .before .before .before .before .before .before .before .before .pre .within)) refl) (c .before .before .before .before .before .r .given .1) in
-    by-eq (then-read _ (h .eq))
-    (c .before .before .put-row .ensures (c .before .before .before .before .before .before .before .before .before .before .before .before .before .args .tokens .now) (h .stands .within) .1 _ [] _ _ _ _ (h .stands) (record { few = tt; root = of-node; refs = (h .head, refl, refl, refl) }))
+    by-eq (then-read _ (read-1 (c .before .before .before .before .before) .eq))
+    (c .before .before .put-row .ensures (c .before .before .before .before .before .before .before .before .before .before .before .before .before .args .tokens .now) (read-1 (c .before .before .before .before .before) .stands .within) .1 _ [] _ _ _ _ (read-1 (c .before .before .before .before .before) .stands) (record { few = tt; root = of-node; refs = (read-1 (c .before .before .before .before .before) .head, refl, refl, refl) }))
 
 pub script-spec : {M : Type 1} → statement M
 script-spec =

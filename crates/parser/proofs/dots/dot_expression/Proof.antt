@@ -8,12 +8,15 @@ use Rattle.grammar.specs.Tree.{nil}
 use Rattle.grammar.specs.Parsed.{turns}
 use Rattle.grammar.specs.Expressions.{dots, dot-expression, get-identifier}
 use Rattle.parser.specs.Meets.{of-node}
-use Rattle.parser.proofs.Answers.{told, taken, pass, by-eq, need-met, choose-true, choose-false, then-read, then-eq}
+use Rattle.parser.proofs.Answers.{told, taken, TakenOf, pass, by-eq, need-met, choose-true, choose-false, then-read, then-eq}
 use Rattle.parser.proofs.Parts.{ready-lent, back-read, in-part, back-same}
 use Rattle.parser.proofs.Moves.{fits-same, ready-same, small}
 use borrow.Author.Needs.{needs}
 use Rattle.parser.proofs.dots.dot_expression.Statement.{statement}
 use Rattle.parser.proofs.dots.dot_expression.Tie as tie
+
+read-1 : (c : tie.After-r) → TakenOf (c .before .before .before .before .leaf .ensures (c .before .before .before .before .before .before .before .before .args .tokens .now) (c .before .before .before .before .before .before .before .before .pre .0 .within)) (c .r .given .1)
+read-1 c = taken (c .before .before .before .before .leaf .ensures (c .before .before .before .before .before .before .before .before .args .tokens .now) (c .before .before .before .before .before .before .before .before .pre .0 .within)) (c .r .given .1)
 
 leaf-requires : tie.Need-leaf-requires
 leaf-requires c κs = (c .before .before .before .pre .0 .fits, small (c .before .before .before .pre .0))
@@ -40,29 +43,28 @@ same-length-2 c = search needs
 returns-2 : tie.Need-returns-2
 unfolding dot-expression get-identifier is
 returns-2 c =
-    let h = taken (c .before .before .before .before .before .before .before .leaf .ensures (c .before .before .before .before .before .before .before .before .before .before .before .args .tokens .now) (c .before .before .before .before .before .before .before .before .before .before .before .pre .0 .within)) (c .before .before .before .r .given .1) in
-    by-eq (then-eq _ (need-met _ _ _ (eq-eqb _ _ (c .before .before .before .before .before .before .before .before .before .before .before .pre .1))) ∙ then-read _ (h .eq) ∙ choose-false _ _ (sym (c .before .next-symbol-is .ensures) ∙ not-true _ (c .if1 .taken))) (by-eq (sym (h .eq)) (told (c .before .before .before .r .given .1) (c .before .before .before .before .before .before .before .leaf .ensures (c .before .before .before .before .before .before .before .before .before .before .before .args .tokens .now) (c .before .before .before .before .before .before .before .before .before .before .before .pre .0 .within))))
+    by-eq (then-eq _ (need-met _ _ _ (eq-eqb _ _ (c .before .before .before .before .before .before .before .before .before .before .before .pre .1))) ∙ then-read _ (read-1 (c .before .before .before) .eq) ∙ choose-false _ _ (sym (c .before .next-symbol-is .ensures) ∙ not-true _ (c .if1 .taken))) (by-eq (sym (read-1 (c .before .before .before) .eq)) (told (c .before .before .before .r .given .1) (c .before .before .before .before .before .before .before .leaf .ensures (c .before .before .before .before .before .before .before .before .before .before .before .args .tokens .now) (c .before .before .before .before .before .before .before .before .before .before .before .pre .0 .within))))
 
 mul-i : tie.Need-mul-i
-mul-i c = let h = taken (c .before .before .before .before .before .before .before .leaf .ensures (c .before .before .before .before .before .before .before .before .before .before .before .args .tokens .now) (c .before .before .before .before .before .before .before .before .before .before .before .pre .0 .within)) (c .before .before .before .r .given .1) in omega (arith, h .stands .front .fit, c .before .before .before .before .before .before .before .before .before .before .before .pre .0 .fits)
+mul-i c = omega (arith, read-1 (c .before .before .before) .stands .front .fit, c .before .before .before .before .before .before .before .before .before .before .before .pre .0 .fits)
 
 mul-dots : tie.Need-mul-dots
-mul-dots c = let h = taken (c .before .before .before .before .before .before .before .leaf .ensures (c .before .before .before .before .before .before .before .before .before .before .before .args .tokens .now) (c .before .before .before .before .before .before .before .before .before .before .before .pre .0 .within)) (c .before .before .before .r .given .1) in omega (arith, h .stands .front .fit, c .before .before .before .before .before .before .before .before .before .before .before .pre .0 .fits)
+mul-dots c = omega (arith, read-1 (c .before .before .before) .stands .front .fit, c .before .before .before .before .before .before .before .before .before .before .before .pre .0 .fits)
 
 sub-dots : tie.Need-sub-dots
-sub-dots c = let h = taken (c .before .before .before .before .before .before .before .leaf .ensures (c .before .before .before .before .before .before .before .before .before .before .before .args .tokens .now) (c .before .before .before .before .before .before .before .before .before .before .before .pre .0 .within)) (c .before .before .before .r .given .1) in omega (arith, h .stands .front .fit, c .before .before .before .before .before .before .before .leaf .kept .0)
+sub-dots c = omega (arith, read-1 (c .before .before .before) .stands .front .fit, c .before .before .before .before .before .before .before .leaf .kept .0)
 
 part-dots-start : tie.Need-part-dots-start
-part-dots-start c = let h = taken (c .before .before .before .before .before .before .before .leaf .ensures (c .before .before .before .before .before .before .before .before .before .before .before .args .tokens .now) (c .before .before .before .before .before .before .before .before .before .before .before .pre .0 .within)) (c .before .before .before .r .given .1) in omega (arith, h .stands .front .fit, c .before .before .before .before .before .before .before .leaf .kept .0)
+part-dots-start c = omega (arith, read-1 (c .before .before .before) .stands .front .fit, c .before .before .before .before .before .before .before .leaf .kept .0)
 
 part-dots-end : tie.Need-part-dots-end
 part-dots-end c = search needs
 
 add-dots : tie.Need-add-dots
-add-dots c = let h = taken (c .before .before .before .before .before .before .before .before .leaf .ensures (c .before .before .before .before .before .before .before .before .before .before .before .before .args .tokens .now) (c .before .before .before .before .before .before .before .before .before .before .before .before .pre .0 .within)) (c .before .before .before .before .r .given .1) in omega (arith, h .stands .front .fit, c .before .before .before .before .before .before .before .before .before .before .before .before .pre .0 .fits)
+add-dots c = omega (arith, read-1 (c .before .before .before .before) .stands .front .fit, c .before .before .before .before .before .before .before .before .before .before .before .before .pre .0 .fits)
 
 dots-requires : tie.Need-dots-requires
-dots-requires c κs = let h = taken (c .before .before .before .before .before .before .before .before .leaf .ensures (c .before .before .before .before .before .before .before .before .before .before .before .before .args .tokens .now) (c .before .before .before .before .before .before .before .before .before .before .before .before .pre .0 .within)) (c .before .before .before .before .r .given .1) in ready-lent {ys = c .before .before .before .before .before .before .before .before .leaf .last .0} (c .before .before .before .before .r .given .0 .0) (ready-same (c .before .before .before .before .before .before .before .before .before .before .before .before .pre .0) (c .before .before .before .before .before .before .before .before .leaf .kept .0) (h .stands .within)) (omega (arith, h .stands .front .fit, c .before .before .before .before .before .before .before .before .leaf .kept .0))
+dots-requires c κs = ready-lent {ys = c .before .before .before .before .before .before .before .before .leaf .last .0} (c .before .before .before .before .r .given .0 .0) (ready-same (c .before .before .before .before .before .before .before .before .before .before .before .before .pre .0) (c .before .before .before .before .before .before .before .before .leaf .kept .0) (read-1 (c .before .before .before .before) .stands .within)) (omega (arith, read-1 (c .before .before .before .before) .stands .front .fit, c .before .before .before .before .before .before .before .before .leaf .kept .0))
 
 enum-known-q : tie.Need-enum-known-q
 enum-known-q c = search needs
@@ -76,11 +78,10 @@ same-length-3 c = back-same (c .before .before .before .before .before .before .
 returns-3 : tie.Need-returns-3
 unfolding dot-expression get-identifier is
 returns-3 c =
-    let h = taken (c .before .before .before .before .before .before .before .before .before .before .before .before .before .leaf .ensures (c .before .before .before .before .before .before .before .before .before .before .before .before .before .before .before .before .before .args .tokens .now) (c .before .before .before .before .before .before .before .before .before .before .before .before .before .before .before .before .before .pre .0 .within)) (c .before .before .before .before .before .before .before .before .before .r .given .1) in
-    by-eq (then-eq _ (need-met _ _ _ (eq-eqb _ _ (c .before .before .before .before .before .before .before .before .before .before .before .before .before .before .before .before .before .pre .1))) ∙ then-read _ (h .eq) ∙ choose-true _ _ (sym (c .before .before .before .before .before .before .before .next-symbol-is .ensures) ∙ not-false _ (c .before .before .before .before .before .before .if1 .left))) (pass _ (in-part (dots (c .before .before .before .before .before .before .before .before .before .before .before .before .before .before .before .before .before .args .tokens .now) turns nil (c .before .before .before .before .before .before .before .before .before .r .given .0 .1 .1 .0)) (h .stands) (c .before .before .before .before .dots .ensures)) (c .enum-told2 .given .1))
+    by-eq (then-eq _ (need-met _ _ _ (eq-eqb _ _ (c .before .before .before .before .before .before .before .before .before .before .before .before .before .before .before .before .before .pre .1))) ∙ then-read _ (read-1 (c .before .before .before .before .before .before .before .before .before) .eq) ∙ choose-true _ _ (sym (c .before .before .before .before .before .before .before .next-symbol-is .ensures) ∙ not-false _ (c .before .before .before .before .before .before .if1 .left))) (pass _ (in-part (dots (c .before .before .before .before .before .before .before .before .before .before .before .before .before .before .before .before .before .args .tokens .now) turns nil (c .before .before .before .before .before .before .before .before .before .r .given .0 .1 .1 .0)) (read-1 (c .before .before .before .before .before .before .before .before .before) .stands) (c .before .before .before .before .dots .ensures)) (c .enum-told2 .given .1))
 
 add-put-row : tie.Need-add-put-row
-add-put-row c = let h = taken (c .before .before .before .before .before .before .before .before .before .before .before .before .before .before .before .leaf .ensures (c .before .before .before .before .before .before .before .before .before .before .before .before .before .before .before .before .before .before .before .args .tokens .now) (c .before .before .before .before .before .before .before .before .before .before .before .before .before .before .before .before .before .before .before .pre .0 .within)) (c .before .before .before .before .before .before .before .before .before .before .before .r .given .1) in let q = taken (back-read (h .stands) (in-part (dots (c .before .before .before .before .before .before .before .before .before .before .before .before .before .before .before .before .before .before .before .args .tokens .now) turns nil (c .before .before .before .before .before .before .before .before .before .before .before .r .given .0 .1 .1 .0)) (h .stands) (c .before .before .before .before .before .before .dots .ensures)) (c .before .before .q .given .1)) refl in omega (arith, q .stands .front .fit, c .before .before .before .before .before .before .before .before .before .before .before .before .before .before .before .before .before .before .before .pre .0 .fits)
+add-put-row c = let q = taken (back-read (read-1 (c .before .before .before .before .before .before .before .before .before .before .before) .stands) (in-part (dots (c .before .before .before .before .before .before .before .before .before .before .before .before .before .before .before .before .before .before .before .args .tokens .now) turns nil (c .before .before .before .before .before .before .before .before .before .before .before .r .given .0 .1 .1 .0)) (read-1 (c .before .before .before .before .before .before .before .before .before .before .before) .stands) (c .before .before .before .before .before .before .dots .ensures)) (c .before .before .q .given .1)) refl in omega (arith, q .stands .front .fit, c .before .before .before .before .before .before .before .before .before .before .before .before .before .before .before .before .before .before .before .pre .0 .fits)
 
 put-row-requires : tie.Need-put-row-requires
 put-row-requires c κs = (fits-same _ _ _ (c .before .before .before .before .before .before .before .before .before .before .before .before .before .before .before .before .before .before .before .pre .0 .fits) (back-same (c .before .before .before .before .before .before .before .before .before .before .before .r .given .0 .0) (c .before .before .before .before .before .before .before .before .before .before .before .before .before .before .before .leaf .last .0) (c .before .before .before .before .before .before .dots .last .1 .0) (c .before .before .before .before .before .before .dots .kept .1 .0) ∙ c .before .before .before .before .before .before .before .before .before .before .before .before .before .before .before .leaf .kept .0), small (c .before .before .before .before .before .before .before .before .before .before .before .before .before .before .before .before .before .before .before .pre .0))
@@ -91,10 +92,9 @@ same-length-4 c = c .before .before .put-row .kept .0 ∙ back-same (c .before .
 returns-4 : tie.Need-returns-4
 unfolding dot-expression get-identifier is
 returns-4 c =
-    let h = taken (c .before .before .before .before .before .before .before .before .before .before .before .before .before .before .before .before .before .before .leaf .ensures (c .before .before .before .before .before .before .before .before .before .before .before .before .before .before .before .before .before .before .before .before .before .before .args .tokens .now) (c .before .before .before .before .before .before .before .before .before .before .before .before .before .before .before .before .before .before .before .before .before .before .pre .0 .within)) (c .before .before .before .before .before .before .before .before .before .before .before .before .before .before .r .given .1) in
-    let q = taken (back-read (h .stands) (in-part (dots (c .before .before .before .before .before .before .before .before .before .before .before .before .before .before .before .before .before .before .before .before .before .before .args .tokens .now) turns nil (c .before .before .before .before .before .before .before .before .before .before .before .before .before .before .r .given .0 .1 .1 .0)) (h .stands) (c .before .before .before .before .before .before .before .before .before .dots .ensures)) (c .before .before .before .before .before .q .given .1)) refl in
-    by-eq (then-eq _ (need-met _ _ _ (eq-eqb _ _ (c .before .before .before .before .before .before .before .before .before .before .before .before .before .before .before .before .before .before .before .before .before .before .pre .1))) ∙ then-read _ (h .eq) ∙ choose-true _ _ (sym (c .before .before .before .before .before .before .before .before .before .before .before .before .next-symbol-is .ensures) ∙ not-false _ (c .before .before .before .before .before .before .before .before .before .before .before .if1 .left)) ∙ then-read _ (q .eq))
-    (c .before .before .put-row .ensures (c .before .before .before .before .before .before .before .before .before .before .before .before .before .before .before .before .before .before .before .before .before .before .args .tokens .now) (q .stands .within) .1 _ [] _ _ _ _ (q .stands) (record { few = tt; root = of-node; refs = (h .head, q .head, refl, refl) }))
+    let q = taken (back-read (read-1 (c .before .before .before .before .before .before .before .before .before .before .before .before .before .before) .stands) (in-part (dots (c .before .before .before .before .before .before .before .before .before .before .before .before .before .before .before .before .before .before .before .before .before .before .args .tokens .now) turns nil (c .before .before .before .before .before .before .before .before .before .before .before .before .before .before .r .given .0 .1 .1 .0)) (read-1 (c .before .before .before .before .before .before .before .before .before .before .before .before .before .before) .stands) (c .before .before .before .before .before .before .before .before .before .dots .ensures)) (c .before .before .before .before .before .q .given .1)) refl in
+    by-eq (then-eq _ (need-met _ _ _ (eq-eqb _ _ (c .before .before .before .before .before .before .before .before .before .before .before .before .before .before .before .before .before .before .before .before .before .before .pre .1))) ∙ then-read _ (read-1 (c .before .before .before .before .before .before .before .before .before .before .before .before .before .before) .eq) ∙ choose-true _ _ (sym (c .before .before .before .before .before .before .before .before .before .before .before .before .next-symbol-is .ensures) ∙ not-false _ (c .before .before .before .before .before .before .before .before .before .before .before .if1 .left)) ∙ then-read _ (q .eq))
+    (c .before .before .put-row .ensures (c .before .before .before .before .before .before .before .before .before .before .before .before .before .before .before .before .before .before .before .before .before .before .args .tokens .now) (q .stands .within) .1 _ [] _ _ _ _ (q .stands) (record { few = tt; root = of-node; refs = (read-1 (c .before .before .before .before .before .before .before .before .before .before .before .before .before .before) .head, q .head, refl, refl) }))
 
 pub dot-expression-spec : {M : Type 1} → statement M
 dot-expression-spec =

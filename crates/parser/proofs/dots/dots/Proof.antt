@@ -9,7 +9,7 @@ use Rattle.grammar.specs.Words.{SDot, step}
 use Rattle.grammar.specs.Tree.{nil}
 use Rattle.grammar.specs.Expressions.{dots, get-identifier}
 use Rattle.parser.specs.Meets.{many, of-node}
-use Rattle.parser.proofs.Answers.{bounds, no-list, taken, pass, by-eq, refuses, need-met, need-failed, choose-true, choose-false, then-read, then-refused, then-eq}
+use Rattle.parser.proofs.Answers.{bounds, no-list, taken, TakenOf, pass, by-eq, refuses, need-met, need-failed, choose-true, choose-false, then-read, then-refused, then-eq}
 use Rattle.parser.proofs.Loops.{Turning, starts, stops, lengthens}
 use Rattle.parser.proofs.Moves.{on-step, within-step, stands-step, moves-next}
 use borrow.Author.Needs.{needs}
@@ -25,6 +25,9 @@ Inv-loop tokens pool₀ first c k₀ head₀ d₀ pool k head d = Inv tokens poo
 
 abbrev μ-loop : tie.MeasureT-loop
 μ-loop tokens pool₀ first c k₀ head₀ d₀ pool k head d = length tokens - d
+
+read-1 : (c : tie.After-r Inv-loop μ-loop) → TakenOf (c .before .before .before .before .put-row .ensures (c .before .before .before .before .before .before .before .before .before .before .before .before .before .before .before .args .tokens .now) (within-step _ _ (c .before .before .before .before .before .before .before .before .iterate2 .ensures) (within-step _ _ (c .before .before .before .before .before .before .before .before .before .iterate .ensures) (c .before .before .before .before .before .before .before .before .before .before .before .before .loop .inv .state .stands .within))) .1 _ ((c .before .before .before .before .before .before .before .before .before .before .before .before .loop .inv .state .value) ∷ []) [] _ _ _ (stands-step _ _ (c .before .before .before .before .before .before .before .before .iterate2 .ensures) (stands-step _ _ (c .before .before .before .before .before .before .before .before .before .iterate .ensures) (c .before .before .before .before .before .before .before .before .before .before .before .before .loop .inv .state .stands))) (record { few = tt; root = of-node; refs = (refl, refl, refl, refl) })) (c .r .given .1)
+read-1 c = taken (c .before .before .before .before .put-row .ensures (c .before .before .before .before .before .before .before .before .before .before .before .before .before .before .before .args .tokens .now) (within-step _ _ (c .before .before .before .before .before .before .before .before .iterate2 .ensures) (within-step _ _ (c .before .before .before .before .before .before .before .before .before .iterate .ensures) (c .before .before .before .before .before .before .before .before .before .before .before .before .loop .inv .state .stands .within))) .1 _ ((c .before .before .before .before .before .before .before .before .before .before .before .before .loop .inv .state .value) ∷ []) [] _ _ _ (stands-step _ _ (c .before .before .before .before .before .before .before .before .iterate2 .ensures) (stands-step _ _ (c .before .before .before .before .before .before .before .before .before .iterate .ensures) (c .before .before .before .before .before .before .before .before .before .before .before .before .loop .inv .state .stands))) (record { few = tt; root = of-node; refs = (refl, refl, refl, refl) })) (c .r .given .1)
 
 loop-holds : tie.Need-loop-holds Inv-loop μ-loop
 loop-holds c = record { same = refl; state = starts (dots _) nil (c .before .before .pre .sound .few) (no-list _ _ (c .before .before .pre .within)) refl }
@@ -71,15 +74,14 @@ first-of-requires : tie.Need-first-of-requires Inv-loop μ-loop
 first-of-requires c κs = search needs
 
 loop-less : tie.Need-loop-less Inv-loop μ-loop
-loop-less c = let h = taken (c .before .before .before .before .before .before .before .before .before .before .put-row .ensures (c .before .before .before .before .before .before .before .before .before .before .before .before .before .before .before .before .before .before .before .before .before .args .tokens .now) (within-step _ _ (c .before .before .before .before .before .before .before .before .before .before .before .before .before .before .iterate2 .ensures) (within-step _ _ (c .before .before .before .before .before .before .before .before .before .before .before .before .before .before .before .iterate .ensures) (c .before .before .before .before .before .before .before .before .before .before .before .before .before .before .before .before .before .before .loop .inv .state .stands .within))) .1 _ ((c .before .before .before .before .before .before .before .before .before .before .before .before .before .before .before .before .before .before .loop .inv .state .value) ∷ []) [] _ _ _ (stands-step _ _ (c .before .before .before .before .before .before .before .before .before .before .before .before .before .before .iterate2 .ensures) (stands-step _ _ (c .before .before .before .before .before .before .before .before .before .before .before .before .before .before .before .iterate .ensures) (c .before .before .before .before .before .before .before .before .before .before .before .before .before .before .before .before .before .before .loop .inv .state .stands))) (record { few = tt; root = of-node; refs = (refl, refl, refl, refl) })) (c .before .before .before .before .before .before .r .given .1) in omega (arith, h .stands .within, bounds (c .before .before .before .before .before .before .before .before .before .before .put-row .ensures (c .before .before .before .before .before .before .before .before .before .before .before .before .before .before .before .before .before .before .before .before .before .args .tokens .now) (within-step _ _ (c .before .before .before .before .before .before .before .before .before .before .before .before .before .before .iterate2 .ensures) (within-step _ _ (c .before .before .before .before .before .before .before .before .before .before .before .before .before .before .before .iterate .ensures) (c .before .before .before .before .before .before .before .before .before .before .before .before .before .before .before .before .before .before .loop .inv .state .stands .within))) .0) (c .before .before .before .before .before .before .r .given .1) .on, moves-next SDot (c .before .before .before .before .before .before .before .before .before .before .before .before .before .before .before .before .before .before .before .before .before .pre .sound) (c .before .before .before .before .before .before .before .before .before .before .before .before .before .before .before .before .before .before .loop .inv .state .stands .within) (sym (c .before .before .before .before .before .before .before .before .before .before .before .before .before .before .before .before .before .next-symbol-is .ensures) ∙ c .before .before .before .before .before .before .before .before .before .before .before .before .before .before .before .before .if1 .taken) refl, c .before .before .before .before .before .before .before .before .before .before .before .before .before .before .before .iterate .ensures, on-step _ _ (c .before .before .before .before .before .before .before .before .before .before .before .before .before .before .iterate2 .ensures))
+loop-less c = omega (arith, read-1 (c .before .before .before .before .before .before) .stands .within, bounds (c .before .before .before .before .before .before .before .before .before .before .put-row .ensures (c .before .before .before .before .before .before .before .before .before .before .before .before .before .before .before .before .before .before .before .before .before .args .tokens .now) (within-step _ _ (c .before .before .before .before .before .before .before .before .before .before .before .before .before .before .iterate2 .ensures) (within-step _ _ (c .before .before .before .before .before .before .before .before .before .before .before .before .before .before .before .iterate .ensures) (c .before .before .before .before .before .before .before .before .before .before .before .before .before .before .before .before .before .before .loop .inv .state .stands .within))) .0) (c .before .before .before .before .before .before .r .given .1) .on, moves-next SDot (c .before .before .before .before .before .before .before .before .before .before .before .before .before .before .before .before .before .before .before .before .before .pre .sound) (c .before .before .before .before .before .before .before .before .before .before .before .before .before .before .before .before .before .before .loop .inv .state .stands .within) (sym (c .before .before .before .before .before .before .before .before .before .before .before .before .before .before .before .before .before .next-symbol-is .ensures) ∙ c .before .before .before .before .before .before .before .before .before .before .before .before .before .before .before .before .if1 .taken) refl, c .before .before .before .before .before .before .before .before .before .before .before .before .before .before .before .iterate .ensures, on-step _ _ (c .before .before .before .before .before .before .before .before .before .before .before .before .before .before .iterate2 .ensures))
 
 loop-again : tie.Need-loop-again Inv-loop μ-loop
 unfolding dots get-identifier
 loop-again c =
-    let h = taken (c .before .before .before .before .before .before .before .before .before .before .put-row .ensures (c .before .before .before .before .before .before .before .before .before .before .before .before .before .before .before .before .before .before .before .before .before .args .tokens .now) (within-step _ _ (c .before .before .before .before .before .before .before .before .before .before .before .before .before .before .iterate2 .ensures) (within-step _ _ (c .before .before .before .before .before .before .before .before .before .before .before .before .before .before .before .iterate .ensures) (c .before .before .before .before .before .before .before .before .before .before .before .before .before .before .before .before .before .before .loop .inv .state .stands .within))) .1 _ ((c .before .before .before .before .before .before .before .before .before .before .before .before .before .before .before .before .before .before .loop .inv .state .value) ∷ []) [] _ _ _ (stands-step _ _ (c .before .before .before .before .before .before .before .before .before .before .before .before .before .before .iterate2 .ensures) (stands-step _ _ (c .before .before .before .before .before .before .before .before .before .before .before .before .before .before .before .iterate .ensures) (c .before .before .before .before .before .before .before .before .before .before .before .before .before .before .before .before .before .before .loop .inv .state .stands))) (record { few = tt; root = of-node; refs = (refl, refl, refl, refl) })) (c .before .before .before .before .before .before .r .given .1) in
     record {
       same = c .before .before .before .link .kept .0 ∙ c .before .before .before .before .before .before .before .before .before .before .put-row .kept .0 ∙ c .before .before .before .before .before .before .before .before .before .before .before .before .before .before .before .before .before .before .loop .inv .same;
-      state = rw (c .first-of .ensures, c .before .before .before .link .ensures) (lengthens (c .before .before .before .before .before .before .before .before .before .before .before .before .before .before .before .before .before .before .loop .inv .state) _ (h .stands) (h .head) (choose-true _ _ (sym (c .before .before .before .before .before .before .before .before .before .before .before .before .before .before .before .before .before .next-symbol-is .ensures) ∙ c .before .before .before .before .before .before .before .before .before .before .before .before .before .before .before .before .if1 .taken) ∙ then-eq _ (rw (← (c .before .before .before .before .before .before .before .before .before .before .before .before .before .before .iterate2 .ensures ∙ ap (step _) (c .before .before .before .before .before .before .before .before .before .before .before .before .before .before .before .iterate .ensures))) (need-met _ _ _ (sym (c .before .before .before .before .before .before .before .before .before .before .before .before .before .is-identifier .ensures) ∙ not-false _ (c .before .before .before .before .before .before .before .before .before .before .before .before .if2 .left)))) ∙ then-read _ (h .eq)) (omega (arith, bounds (c .before .before .before .before .before .before .before .before .before .before .put-row .ensures (c .before .before .before .before .before .before .before .before .before .before .before .before .before .before .before .before .before .before .before .before .before .args .tokens .now) (within-step _ _ (c .before .before .before .before .before .before .before .before .before .before .before .before .before .before .iterate2 .ensures) (within-step _ _ (c .before .before .before .before .before .before .before .before .before .before .before .before .before .before .before .iterate .ensures) (c .before .before .before .before .before .before .before .before .before .before .before .before .before .before .before .before .before .before .loop .inv .state .stands .within))) .0) (c .before .before .before .before .before .before .r .given .1) .on, moves-next SDot (c .before .before .before .before .before .before .before .before .before .before .before .before .before .before .before .before .before .before .before .before .before .pre .sound) (c .before .before .before .before .before .before .before .before .before .before .before .before .before .before .before .before .before .before .loop .inv .state .stands .within) (sym (c .before .before .before .before .before .before .before .before .before .before .before .before .before .before .before .before .before .next-symbol-is .ensures) ∙ c .before .before .before .before .before .before .before .before .before .before .before .before .before .before .before .before .if1 .taken) refl, c .before .before .before .before .before .before .before .before .before .before .before .before .before .before .before .iterate .ensures, on-step _ _ (c .before .before .before .before .before .before .before .before .before .before .before .before .before .before .iterate2 .ensures))) (omega arith) (h .stands .within));
+      state = rw (c .first-of .ensures, c .before .before .before .link .ensures) (lengthens (c .before .before .before .before .before .before .before .before .before .before .before .before .before .before .before .before .before .before .loop .inv .state) _ (read-1 (c .before .before .before .before .before .before) .stands) (read-1 (c .before .before .before .before .before .before) .head) (choose-true _ _ (sym (c .before .before .before .before .before .before .before .before .before .before .before .before .before .before .before .before .before .next-symbol-is .ensures) ∙ c .before .before .before .before .before .before .before .before .before .before .before .before .before .before .before .before .if1 .taken) ∙ then-eq _ (rw (← (c .before .before .before .before .before .before .before .before .before .before .before .before .before .before .iterate2 .ensures ∙ ap (step _) (c .before .before .before .before .before .before .before .before .before .before .before .before .before .before .before .iterate .ensures))) (need-met _ _ _ (sym (c .before .before .before .before .before .before .before .before .before .before .before .before .before .is-identifier .ensures) ∙ not-false _ (c .before .before .before .before .before .before .before .before .before .before .before .before .if2 .left)))) ∙ then-read _ (read-1 (c .before .before .before .before .before .before) .eq)) (omega (arith, bounds (c .before .before .before .before .before .before .before .before .before .before .put-row .ensures (c .before .before .before .before .before .before .before .before .before .before .before .before .before .before .before .before .before .before .before .before .before .args .tokens .now) (within-step _ _ (c .before .before .before .before .before .before .before .before .before .before .before .before .before .before .iterate2 .ensures) (within-step _ _ (c .before .before .before .before .before .before .before .before .before .before .before .before .before .before .before .iterate .ensures) (c .before .before .before .before .before .before .before .before .before .before .before .before .before .before .before .before .before .before .loop .inv .state .stands .within))) .0) (c .before .before .before .before .before .before .r .given .1) .on, moves-next SDot (c .before .before .before .before .before .before .before .before .before .before .before .before .before .before .before .before .before .before .before .before .before .pre .sound) (c .before .before .before .before .before .before .before .before .before .before .before .before .before .before .before .before .before .before .loop .inv .state .stands .within) (sym (c .before .before .before .before .before .before .before .before .before .before .before .before .before .before .before .before .before .next-symbol-is .ensures) ∙ c .before .before .before .before .before .before .before .before .before .before .before .before .before .before .before .before .if1 .taken) refl, c .before .before .before .before .before .before .before .before .before .before .before .before .before .before .before .iterate .ensures, on-step _ _ (c .before .before .before .before .before .before .before .before .before .before .before .before .before .before .iterate2 .ensures))) (omega arith) (read-1 (c .before .before .before .before .before .before) .stands .within))
     }
 
 same-length-3 : tie.Need-same-length-3 Inv-loop μ-loop

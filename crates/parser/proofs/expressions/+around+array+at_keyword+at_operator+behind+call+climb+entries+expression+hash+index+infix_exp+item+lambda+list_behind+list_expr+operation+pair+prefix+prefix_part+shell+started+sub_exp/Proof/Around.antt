@@ -6,7 +6,7 @@ use lib.Dec.{lit<}
 use Rattle.parser.specs.Contracts.{around}
 use Rattle.parser.proofs.Moves.{falls, fits-same, le-refl}
 use Rattle.parser.specs.Meets.{of-node}
-use Rattle.parser.proofs.Answers.{taken, pass, by-eq, then-read}
+use Rattle.parser.proofs.Answers.{taken, TakenOf, pass, by-eq, then-read}
 use borrow.Author.Needs.{needs}
 use Rattle.parser.proofs.expressions.around.Reads as around-reads
 use Rattle.parser.proofs.expressions.expression.Reads as expression-reads
@@ -17,6 +17,9 @@ use Rattle.parser.proofs.expressions.+around+array+at_keyword+at_operat
 module _ (t : ℕ) where
   abbrev cs : lts.Claims
   cs = (expression-below t, expression-reads.Post, put-row-reads.Asked, put-row-reads.Learnt)
+
+  read-1 : (c : lts.After-r cs (around-at t) around-reads.Post) → TakenOf (c .before .before .before .before .expression .ensures) (c .r .given .1)
+  read-1 c = taken (c .before .before .before .before .expression .ensures) (c .r .given .1)
 
   pub expression-requires : lts.Need-expression-requires cs (around-at t) around-reads.Post
   expression-requires c κs = (falls _ _ _ _ _ _ _ (c .before .before .before .pre .0) (le-refl _) (lit< tt), c .before .before .before .pre .1 .0)
@@ -43,6 +46,5 @@ module _ (t : ℕ) where
   pub returns-2 : lts.Need-returns-2 cs (around-at t) around-reads.Post
   unfolding around
   returns-2 c =
-      let h = taken (c .before .before .before .before .before .before .before .before .before .expression .ensures) (c .before .before .before .before .before .r .given .1) in
-      by-eq (then-read _ (h .eq))
-      (c .before .before .put-row .ensures (c .before .before .before .before .before .before .before .before .before .before .before .before .before .args .tokens .now) (h .stands .within) .1 _ [] _ _ _ _ (h .stands) (record { few = tt; root = of-node; refs = (h .head, refl, refl, refl) }))
+      by-eq (then-read _ (read-1 (c .before .before .before .before .before) .eq))
+      (c .before .before .put-row .ensures (c .before .before .before .before .before .before .before .before .before .before .before .before .before .args .tokens .now) (read-1 (c .before .before .before .before .before) .stands .within) .1 _ [] _ _ _ _ (read-1 (c .before .before .before .before .before) .stands) (record { few = tt; root = of-node; refs = (read-1 (c .before .before .before .before .before) .head, refl, refl, refl) }))

@@ -6,7 +6,7 @@ use Prim.Native.Nat.{ℕ}
 use Rattle.grammar.specs.Expressions.{array}
 use Rattle.parser.specs.Contracts.{closed}
 use Rattle.parser.specs.Meets.{of-node}
-use Rattle.parser.proofs.Answers.{at-once, taken, pass, by-eq, then-read, choose-true, choose-false}
+use Rattle.parser.proofs.Answers.{at-once, taken, TakenOf, pass, by-eq, then-read, choose-true, choose-false}
 use Rattle.parser.proofs.Moves.{falls, le-refl, ready-same, small, stands-step, within-step}
 use borrow.Author.Needs.{needs}
 use Rattle.parser.proofs.expressions.array.Reads as array-reads
@@ -21,6 +21,9 @@ use Rattle.parser.proofs.expressions.+around+array+at_keyword+at_operat
 module _ (t : ℕ) where
   abbrev cs : lts.Claims
   cs = (next-symbol-is-reads.Asked, next-symbol-is-reads.Learnt, iterate-reads.Asked, iterate-reads.Learnt, put-row-reads.Asked, put-row-reads.Learnt, list-expr-below t, list-expr-reads.Post, closed-reads.Asked, closed-reads.Learnt)
+
+  read-1 : (c : lts.After-r cs (array-at t) array-reads.Post) → TakenOf (c .before .before .before .before .list-expr .ensures) (c .r .given .1)
+  read-1 c = taken (c .before .before .before .before .list-expr .ensures) (c .r .given .1)
 
   pub next-symbol-is-requires : lts.Need-next-symbol-is-requires cs (array-at t) array-reads.Post
   next-symbol-is-requires c κs = search needs
@@ -58,7 +61,7 @@ module _ (t : ℕ) where
   returns-2 c = by-eq (choose-false _ _ (sym (c .before .before .before .before .before .before .before .next-symbol-is .ensures) ∙ c .before .before .before .before .before .before .if1 .left)) (pass _ (c .before .before .before .before .list-expr .ensures) (c .enum-told .given .1))
 
   pub closed-requires : lts.Need-closed-requires cs (array-at t) array-reads.Post
-  closed-requires c κs = let h = taken (c .before .before .before .before .before .before .list-expr .ensures) (c .before .before .r .given .1) in (ready-same (c .before .before .before .before .before .before .before .before .before .before .before .before .pre .1) (c .before .before .before .before .before .before .list-expr .kept .1 .0) (h .stands .within), small (c .before .before .before .before .before .before .before .before .before .before .before .before .pre .1))
+  closed-requires c κs = (ready-same (c .before .before .before .before .before .before .before .before .before .before .before .before .pre .1) (c .before .before .before .before .before .before .list-expr .kept .1 .0) (read-1 (c .before .before) .stands .within), small (c .before .before .before .before .before .before .before .before .before .before .before .before .pre .1))
 
   pub same-length-3 : lts.Need-same-length-3 cs (array-at t) array-reads.Post
   same-length-3 c = c .before .before .closed .kept .1 .0 ∙ c .before .before .before .before .before .before .before .before .before .list-expr .kept .1 .0
@@ -66,5 +69,4 @@ module _ (t : ℕ) where
   pub returns-3 : lts.Need-returns-3 cs (array-at t) array-reads.Post
   unfolding array closed
   returns-3 c =
-      let h = taken (c .before .before .before .before .before .before .before .before .before .list-expr .ensures) (c .before .before .before .before .before .r .given .1) in
-      by-eq (choose-false _ _ (sym (c .before .before .before .before .before .before .before .before .before .before .before .before .next-symbol-is .ensures) ∙ c .before .before .before .before .before .before .before .before .before .before .before .if1 .left) ∙ then-read _ (h .eq)) (c .before .before .closed .ensures .1 _ [] _ _ _ _ (h .stands) (record { few = tt; root = of-node; refs = (h .head, refl, refl, refl) }))
+      by-eq (choose-false _ _ (sym (c .before .before .before .before .before .before .before .before .before .before .before .before .next-symbol-is .ensures) ∙ c .before .before .before .before .before .before .before .before .before .before .before .if1 .left) ∙ then-read _ (read-1 (c .before .before .before .before .before) .eq)) (c .before .before .closed .ensures .1 _ [] _ _ _ _ (read-1 (c .before .before .before .before .before) .stands) (record { few = tt; root = of-node; refs = (read-1 (c .before .before .before .before .before) .head, refl, refl, refl) }))

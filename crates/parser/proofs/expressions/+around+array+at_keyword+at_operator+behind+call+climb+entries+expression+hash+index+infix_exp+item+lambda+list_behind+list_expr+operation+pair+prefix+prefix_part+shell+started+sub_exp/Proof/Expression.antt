@@ -6,7 +6,7 @@ use native.Mathlib.Omega.{arith}
 use native.Mathlib.Numerals.{sub-one}
 use Rattle.grammar.specs.Parsed.{refused}
 use Rattle.grammar.specs.Expressions.{expression, level}
-use Rattle.parser.proofs.Answers.{taken, pass, by-eq, refuses, then-read, choose-true, choose-false, read-on, told}
+use Rattle.parser.proofs.Answers.{taken, TakenOf, pass, by-eq, refuses, then-read, choose-true, choose-false, read-on, told}
 use Rattle.parser.proofs.Moves.{front-le, ready-same, stands-step}
 use borrow.Author.Needs.{needs}
 use Rattle.parser.proofs.expressions.climb.Reads as climb-reads
@@ -32,6 +32,9 @@ one-less ts (suc d) order at room n = rw sub-one
 module _ (t : ℕ) where
   abbrev cs : lts.Claims
   cs = (prefix-part-below t, prefix-part-reads.Post, passed-reads.Asked, passed-reads.Learnt, next-symbol-is-reads.Asked, next-symbol-is-reads.Learnt, iterate-reads.Asked, iterate-reads.Learnt, climb-below t, climb-reads.Post)
+
+  read-1 : (c : lts.After-r cs (expression-at t) expression-reads.Post) → TakenOf (c .before .before .before .before .prefix-part .ensures) (c .r .given .1)
+  read-1 c = taken (c .before .before .before .before .prefix-part .ensures) (c .r .given .1)
 
   pub returns : lts.Need-returns cs (expression-at t) expression-reads.Post
   returns c = refuses _ _ _ (too-deep _ _ _ _ _ (c .if1 .taken))
@@ -69,12 +72,11 @@ module _ (t : ℕ) where
 
   pub returns-3 : lts.Need-returns-3 cs (expression-at t) expression-reads.Post
   unfolding level
-  returns-3 c = let h = taken (c .before .before .before .before .before .before .before .before .prefix-part .ensures) (c .before .before .before .before .r .given .1) in by-eq (one-less _ _ _ _ _ (c .before .before .before .before .before .before .before .before .before .before .if1 .left) ∙ then-read _ (h .eq) ∙ choose-true _ _ (sym (c .before .before .next-symbol-is .ensures) ∙ c .before .if2 .taken)) (rw (← (c .iterate .ensures)) (read-on (h .head) (stands-step _ _ (c .iterate .ensures) (h .stands))))
+  returns-3 c = by-eq (one-less _ _ _ _ _ (c .before .before .before .before .before .before .before .before .before .before .if1 .left) ∙ then-read _ (read-1 (c .before .before .before .before) .eq) ∙ choose-true _ _ (sym (c .before .before .next-symbol-is .ensures) ∙ c .before .if2 .taken)) (rw (← (c .iterate .ensures)) (read-on (read-1 (c .before .before .before .before) .head) (stands-step _ _ (c .iterate .ensures) (read-1 (c .before .before .before .before) .stands))))
 
   pub climb-requires : lts.Need-climb-requires cs (expression-at t) expression-reads.Post
   climb-requires c κs =
-      let h = taken (c .before .before .before .before .before .before .before .before .prefix-part .ensures) (c .before .before .before .before .r .given .1) in
-      (omega (arith, c .before .before .before .before .before .before .before .before .before .before .before .before .before .pre .0, c .before .before .before .before .before .before .before .before .before .before .if1 .left, h .stands .on), (ready-same (c .before .before .before .before .before .before .before .before .before .before .before .before .before .pre .1) (c .before .before .before .before .before .before .before .before .prefix-part .kept .1 .0) (h .stands .within), front-le (h .stands .front)))
+      (omega (arith, c .before .before .before .before .before .before .before .before .before .before .before .before .before .pre .0, c .before .before .before .before .before .before .before .before .before .before .if1 .left, read-1 (c .before .before .before .before) .stands .on), (ready-same (c .before .before .before .before .before .before .before .before .before .before .before .before .before .pre .1) (c .before .before .before .before .before .before .before .before .prefix-part .kept .1 .0) (read-1 (c .before .before .before .before) .stands .within), front-le (read-1 (c .before .before .before .before) .stands .front)))
 
   pub same-length-3 : lts.Need-same-length-3 cs (expression-at t) expression-reads.Post
   same-length-3 c = c .before .before .climb .kept .1 .0 ∙ c .before .before .before .before .before .before .before .before .before .before .before .prefix-part .kept .1 .0
@@ -82,5 +84,4 @@ module _ (t : ℕ) where
   pub returns-4 : lts.Need-returns-4 cs (expression-at t) expression-reads.Post
   unfolding level
   returns-4 c =
-      let h = taken (c .before .before .before .before .before .before .before .before .before .before .before .prefix-part .ensures) (c .before .before .before .before .before .before .before .r .given .1) in
-      by-eq (one-less _ _ _ _ _ (c .before .before .before .before .before .before .before .before .before .before .before .before .before .if1 .left) ∙ then-read _ (h .eq) ∙ choose-false _ _ (sym (c .before .before .before .before .before .next-symbol-is .ensures) ∙ c .before .before .before .before .if2 .left)) (c .before .before .climb .ensures .1 _ _ _ _ (h .stands) (h .head))
+      by-eq (one-less _ _ _ _ _ (c .before .before .before .before .before .before .before .before .before .before .before .before .before .if1 .left) ∙ then-read _ (read-1 (c .before .before .before .before .before .before .before) .eq) ∙ choose-false _ _ (sym (c .before .before .before .before .before .next-symbol-is .ensures) ∙ c .before .before .before .before .if2 .left)) (c .before .before .climb .ensures .1 _ _ _ _ (read-1 (c .before .before .before .before .before .before .before) .stands) (read-1 (c .before .before .before .before .before .before .before) .head))

@@ -6,7 +6,7 @@ use Prim.Native.Nat.{ℕ}
 use Rattle.grammar.specs.Expressions.{hash-literal}
 use Rattle.parser.specs.Contracts.{item, closed}
 use Rattle.parser.specs.Meets.{of-node}
-use Rattle.parser.proofs.Answers.{at-once, taken, pass, by-eq, then-read, choose-true, choose-false, sooner}
+use Rattle.parser.proofs.Answers.{at-once, taken, TakenOf, pass, by-eq, then-read, choose-true, choose-false, sooner}
 use Rattle.parser.proofs.Moves.{falls, front-le, le-trans, on-step, ready-same, ready-step, small, stands-step, within-step}
 use borrow.Author.Needs.{needs}
 use Rattle.parser.proofs.part.closed.Reads as closed-reads
@@ -22,6 +22,12 @@ use Rattle.parser.proofs.expressions.+around+array+at_keyword+at_operat
 module _ (t : ℕ) where
   abbrev cs : lts.Claims
   cs = (iterate-reads.Asked, iterate-reads.Learnt, next-symbol-is-reads.Asked, next-symbol-is-reads.Learnt, put-row-reads.Asked, put-row-reads.Learnt, pair-below t, pair-reads.Post, entries-below t, entries-reads.Post, closed-reads.Asked, closed-reads.Learnt)
+
+  read-1 : (c : lts.After-r cs (hash-at t) hash-reads.Post) → TakenOf (c .before .before .before .before .pair .ensures) (c .r .given .1)
+  read-1 c = taken (c .before .before .before .before .pair .ensures) (c .r .given .1)
+
+  read-2 : (c : lts.After-q cs (hash-at t) hash-reads.Post) → TakenOf (c .before .before .before .before .entries .ensures .1 _ _ _ _ (read-1 (c .before .before .before .before .before .before .before) .stands) (read-1 (c .before .before .before .before .before .before .before) .head)) (c .q .given .1)
+  read-2 c = taken (c .before .before .before .before .entries .ensures .1 _ _ _ _ (read-1 (c .before .before .before .before .before .before .before) .stands) (read-1 (c .before .before .before .before .before .before .before) .head)) (c .q .given .1)
 
   pub iterate-requires : lts.Need-iterate-requires cs (hash-at t) hash-reads.Post
   iterate-requires c κs = search needs
@@ -60,8 +66,7 @@ module _ (t : ℕ) where
 
   pub entries-requires : lts.Need-entries-requires cs (hash-at t) hash-reads.Post
   entries-requires c κs =
-      let h = taken (c .before .before .before .before .before .before .pair .ensures) (c .before .before .r .given .1) in
-      (falls _ _ _ _ _ _ _ (c .before .before .before .before .before .before .before .before .before .before .before .before .before .pre .0) (le-trans (on-step _ _ (c .before .before .before .before .before .before .before .before .before .before .iterate .ensures)) (h .stands .on)) (lit< tt), (ready-same (c .before .before .before .before .before .before .before .before .before .before .before .before .before .pre .1) (c .before .before .before .before .before .before .pair .kept .1 .0) (h .stands .within), front-le (h .stands .front)))
+      (falls _ _ _ _ _ _ _ (c .before .before .before .before .before .before .before .before .before .before .before .before .before .pre .0) (le-trans (on-step _ _ (c .before .before .before .before .before .before .before .before .before .before .iterate .ensures)) (read-1 (c .before .before) .stands .on)) (lit< tt), (ready-same (c .before .before .before .before .before .before .before .before .before .before .before .before .before .pre .1) (c .before .before .before .before .before .before .pair .kept .1 .0) (read-1 (c .before .before) .stands .within), front-le (read-1 (c .before .before) .stands .front)))
 
   pub enum-known-q : lts.Need-enum-known-q cs (hash-at t) hash-reads.Post
   enum-known-q c = search needs
@@ -74,10 +79,10 @@ module _ (t : ℕ) where
 
   pub returns-3 : lts.Need-returns-3 cs (hash-at t) hash-reads.Post
   unfolding hash-literal item
-  returns-3 c = let h = taken (c .before .before .before .before .before .before .before .before .before .before .before .pair .ensures) (c .before .before .before .before .before .before .before .r .given .1) in by-eq (choose-false _ _ (sym (c .before .before .before .before .before .before .before .before .before .before .before .before .before .before .next-symbol-is .ensures) ∙ c .before .before .before .before .before .before .before .before .before .before .before .before .before .if1 .left)) (rw (← (c .before .before .before .before .before .before .before .before .before .before .before .before .before .before .before .iterate .ensures)) (by-eq (then-read _ (h .eq)) (pass _ (c .before .before .before .before .entries .ensures .1 _ _ _ _ (h .stands) (h .head)) (c .enum-told2 .given .1))))
+  returns-3 c = by-eq (choose-false _ _ (sym (c .before .before .before .before .before .before .before .before .before .before .before .before .before .before .next-symbol-is .ensures) ∙ c .before .before .before .before .before .before .before .before .before .before .before .before .before .if1 .left)) (rw (← (c .before .before .before .before .before .before .before .before .before .before .before .before .before .before .before .iterate .ensures)) (by-eq (then-read _ (read-1 (c .before .before .before .before .before .before .before) .eq)) (pass _ (c .before .before .before .before .entries .ensures .1 _ _ _ _ (read-1 (c .before .before .before .before .before .before .before) .stands) (read-1 (c .before .before .before .before .before .before .before) .head)) (c .enum-told2 .given .1))))
 
   pub closed-requires : lts.Need-closed-requires cs (hash-at t) hash-reads.Post
-  closed-requires c κs = let h = taken (c .before .before .before .before .before .before .before .before .before .before .before .before .before .pair .ensures) (c .before .before .before .before .before .before .before .before .before .r .given .1) in let q = taken (c .before .before .before .before .before .before .entries .ensures .1 _ _ _ _ (h .stands) (h .head)) (c .before .before .q .given .1) in (ready-same (c .before .before .before .before .before .before .before .before .before .before .before .before .before .before .before .before .before .before .before .before .pre .1) (c .before .before .before .before .before .before .entries .kept .1 .0 ∙ c .before .before .before .before .before .before .before .before .before .before .before .before .before .pair .kept .1 .0) (q .stands .within), small (c .before .before .before .before .before .before .before .before .before .before .before .before .before .before .before .before .before .before .before .before .pre .1))
+  closed-requires c κs = (ready-same (c .before .before .before .before .before .before .before .before .before .before .before .before .before .before .before .before .before .before .before .before .pre .1) (c .before .before .before .before .before .before .entries .kept .1 .0 ∙ c .before .before .before .before .before .before .before .before .before .before .before .before .before .pair .kept .1 .0) (read-2 (c .before .before) .stands .within), small (c .before .before .before .before .before .before .before .before .before .before .before .before .before .before .before .before .before .before .before .before .pre .1))
 
   pub same-length-4 : lts.Need-same-length-4 cs (hash-at t) hash-reads.Post
   same-length-4 c = c .before .before .closed .kept .1 .0 ∙ c .before .before .before .before .before .before .before .before .before .entries .kept .1 .0 ∙ c .before .before .before .before .before .before .before .before .before .before .before .before .before .before .before .before .pair .kept .1 .0
@@ -85,7 +90,5 @@ module _ (t : ℕ) where
   pub returns-4 : lts.Need-returns-4 cs (hash-at t) hash-reads.Post
   unfolding hash-literal item closed
   returns-4 c =
-      let h = taken (c .before .before .before .before .before .before .before .before .before .before .before .before .before .before .before .before .pair .ensures) (c .before .before .before .before .before .before .before .before .before .before .before .before .r .given .1) in
-      let q = taken (c .before .before .before .before .before .before .before .before .before .entries .ensures .1 _ _ _ _ (h .stands) (h .head)) (c .before .before .before .before .before .q .given .1) in
-      sooner (on-step _ _ (c .before .before .before .before .before .before .before .before .before .before .before .before .before .before .before .before .before .before .before .before .iterate .ensures)) (by-eq (choose-false _ _ (sym (c .before .before .before .before .before .before .before .before .before .before .before .before .before .before .before .before .before .before .before .next-symbol-is .ensures) ∙ c .before .before .before .before .before .before .before .before .before .before .before .before .before .before .before .before .before .before .if1 .left)) (rw (← (c .before .before .before .before .before .before .before .before .before .before .before .before .before .before .before .before .before .before .before .before .iterate .ensures)) (by-eq (then-read _ (h .eq) ∙ then-read _ (q .eq))
-      (c .before .before .closed .ensures .1 _ [] _ _ _ _ (q .stands) (record { few = tt; root = of-node; refs = (q .head, refl, refl, refl) })))))
+      sooner (on-step _ _ (c .before .before .before .before .before .before .before .before .before .before .before .before .before .before .before .before .before .before .before .before .iterate .ensures)) (by-eq (choose-false _ _ (sym (c .before .before .before .before .before .before .before .before .before .before .before .before .before .before .before .before .before .before .before .next-symbol-is .ensures) ∙ c .before .before .before .before .before .before .before .before .before .before .before .before .before .before .before .before .before .before .if1 .left)) (rw (← (c .before .before .before .before .before .before .before .before .before .before .before .before .before .before .before .before .before .before .before .before .iterate .ensures)) (by-eq (then-read _ (read-1 (c .before .before .before .before .before .before .before .before .before .before .before .before) .eq) ∙ then-read _ (read-2 (c .before .before .before .before .before) .eq))
+      (c .before .before .closed .ensures .1 _ [] _ _ _ _ (read-2 (c .before .before .before .before .before) .stands) (record { few = tt; root = of-node; refs = (read-2 (c .before .before .before .before .before) .head, refl, refl, refl) })))))

@@ -8,7 +8,7 @@ use borrow.Author.Tests.{not-true, not-false}
 use Rattle.grammar.specs.Expressions.{lambda}
 use Rattle.parser.specs.Contracts.{item}
 use Rattle.parser.specs.Meets.{of-node}
-use Rattle.parser.proofs.Answers.{taken, pass, by-eq, refuses, then-read, need-met, need-failed}
+use Rattle.parser.proofs.Answers.{taken, TakenOf, pass, by-eq, refuses, then-read, need-met, need-failed}
 use Rattle.parser.proofs.Moves.{falls, fits-same, front-le, le-refl, le-trans, on-step, ready-same, ready-step, small, stands-step}
 use borrow.Author.Needs.{needs}
 use Rattle.parser.proofs.expressions.behind.Reads as behind-reads
@@ -23,6 +23,12 @@ use Rattle.parser.proofs.expressions.+around+array+at_keyword+at_operat
 module _ (t : ℕ) where
   abbrev cs : lts.Claims
   cs = (next-symbol-is-reads.Asked, next-symbol-is-reads.Learnt, list-expr-below t, list-expr-reads.Post, iterate-reads.Asked, iterate-reads.Learnt, behind-below t, behind-reads.Post, put-row-reads.Asked, put-row-reads.Learnt)
+
+  read-1 : (c : lts.After-r cs (lambda-at t) lambda-reads.Post) → TakenOf (c .before .before .before .before .list-expr .ensures) (c .r .given .1)
+  read-1 c = taken (c .before .before .before .before .list-expr .ensures) (c .r .given .1)
+
+  read-2 : (c : lts.After-q cs (lambda-at t) lambda-reads.Post) → TakenOf (c .before .before .before .before .behind .ensures .1 _ _ _ _ (stands-step _ _ (c .before .before .before .before .before .before .iterate2 .ensures) (stands-step _ _ (c .before .before .before .before .before .before .before .iterate .ensures) (read-1 (c .before .before .before .before .before .before .before .before .before .before .before) .stands)))) (c .q .given .1)
+  read-2 c = taken (c .before .before .before .before .behind .ensures .1 _ _ _ _ (stands-step _ _ (c .before .before .before .before .before .before .iterate2 .ensures) (stands-step _ _ (c .before .before .before .before .before .before .before .iterate .ensures) (read-1 (c .before .before .before .before .before .before .before .before .before .before .before) .stands)))) (c .q .given .1)
 
   pub next-symbol-is-requires : lts.Need-next-symbol-is-requires cs (lambda-at t) lambda-reads.Post
   next-symbol-is-requires c κs = search needs
@@ -62,7 +68,7 @@ module _ (t : ℕ) where
 
   pub returns-4 : lts.Need-returns-4 cs (lambda-at t) lambda-reads.Post
   unfolding lambda
-  returns-4 c = let h = taken (c .before .before .before .before .before .before .before .list-expr .ensures) (c .before .before .before .r .given .1) in refuses _ _ _ (need-met _ _ _ (ap not (sym (c .before .before .before .before .before .before .before .before .before .before .before .before .next-symbol-is .ensures) ∙ c .before .before .before .before .before .before .before .before .before .before .before .if1 .left)) ∙ need-met _ _ _ (ap not (sym (c .before .before .before .before .before .before .before .before .before .before .next-symbol-is2 .ensures) ∙ c .before .before .before .before .before .before .before .before .before .if2 .left)) ∙ then-read _ (h .eq) ∙ need-failed _ _ _ (sym (c .before .next-symbol-is3 .ensures) ∙ not-true _ (c .if3 .taken)))
+  returns-4 c = refuses _ _ _ (need-met _ _ _ (ap not (sym (c .before .before .before .before .before .before .before .before .before .before .before .before .next-symbol-is .ensures) ∙ c .before .before .before .before .before .before .before .before .before .before .before .if1 .left)) ∙ need-met _ _ _ (ap not (sym (c .before .before .before .before .before .before .before .before .before .before .next-symbol-is2 .ensures) ∙ c .before .before .before .before .before .before .before .before .before .if2 .left)) ∙ then-read _ (read-1 (c .before .before .before) .eq) ∙ need-failed _ _ _ (sym (c .before .next-symbol-is3 .ensures) ∙ not-true _ (c .if3 .taken)))
 
   pub iterate-requires : lts.Need-iterate-requires cs (lambda-at t) lambda-reads.Post
   iterate-requires c κs = search needs
@@ -72,10 +78,8 @@ module _ (t : ℕ) where
 
   pub behind-requires : lts.Need-behind-requires cs (lambda-at t) lambda-reads.Post
   behind-requires c κs =
-      let h = taken (c .before .before .before .before .before .before .before .before .before .before .list-expr .ensures) (c .before .before .before .before .before .before .r .given .1) in (
-        falls _ _ _ _ _ _ _ (c .before .before .before .before .before .before .before .before .before .before .before .before .before .before .before .before .before .before .pre .0) (le-trans (h .stands .on) (le-trans (on-step _ _ (c .before .before .iterate .ensures)) (on-step _ _ (c .before .iterate2 .ensures)))) (lit< tt),
-        (ready-step _ _ (c .before .iterate2 .ensures) (ready-step _ _ (c .before .before .iterate .ensures) (ready-same (c .before .before .before .before .before .before .before .before .before .before .before .before .before .before .before .before .before .before .pre .1) (c .before .before .before .before .before .before .before .before .before .before .list-expr .kept .1 .0) (h .stands .within))), front-le (h .stands .front)),
-      )
+      (falls _ _ _ _ _ _ _ (c .before .before .before .before .before .before .before .before .before .before .before .before .before .before .before .before .before .before .pre .0) (le-trans (read-1 (c .before .before .before .before .before .before) .stands .on) (le-trans (on-step _ _ (c .before .before .iterate .ensures)) (on-step _ _ (c .before .iterate2 .ensures)))) (lit< tt),
+      (ready-step _ _ (c .before .iterate2 .ensures) (ready-step _ _ (c .before .before .iterate .ensures) (ready-same (c .before .before .before .before .before .before .before .before .before .before .before .before .before .before .before .before .before .before .pre .1) (c .before .before .before .before .before .before .before .before .before .before .list-expr .kept .1 .0) (read-1 (c .before .before .before .before .before .before) .stands .within))), front-le (read-1 (c .before .before .before .before .before .before) .stands .front)))
 
   pub enum-known-q : lts.Need-enum-known-q cs (lambda-at t) lambda-reads.Post
   enum-known-q c = search needs
@@ -88,7 +92,7 @@ module _ (t : ℕ) where
 
   pub returns-5 : lts.Need-returns-5 cs (lambda-at t) lambda-reads.Post
   unfolding lambda item
-  returns-5 c = let h = taken (c .before .before .before .before .before .before .before .before .before .before .before .before .before .before .before .list-expr .ensures) (c .before .before .before .before .before .before .before .before .before .before .before .r .given .1) in by-eq (need-met _ _ _ (ap not (sym (c .before .before .before .before .before .before .before .before .before .before .before .before .before .before .before .before .before .before .before .before .next-symbol-is .ensures) ∙ c .before .before .before .before .before .before .before .before .before .before .before .before .before .before .before .before .before .before .before .if1 .left)) ∙ need-met _ _ _ (ap not (sym (c .before .before .before .before .before .before .before .before .before .before .before .before .before .before .before .before .before .before .next-symbol-is2 .ensures) ∙ c .before .before .before .before .before .before .before .before .before .before .before .before .before .before .before .before .before .if2 .left)) ∙ then-read _ (h .eq) ∙ need-met _ _ _ (sym (c .before .before .before .before .before .before .before .before .before .next-symbol-is3 .ensures) ∙ not-false _ (c .before .before .before .before .before .before .before .before .if3 .left))) (rw (← (c .before .before .before .before .before .before .before .iterate .ensures), ← (c .before .before .before .before .before .before .iterate2 .ensures)) (pass _ (c .before .before .before .before .behind .ensures .1 _ _ _ _ (stands-step _ _ (c .before .before .before .before .before .before .iterate2 .ensures) (stands-step _ _ (c .before .before .before .before .before .before .before .iterate .ensures) (h .stands)))) (c .enum-told2 .given .1)))
+  returns-5 c = by-eq (need-met _ _ _ (ap not (sym (c .before .before .before .before .before .before .before .before .before .before .before .before .before .before .before .before .before .before .before .before .next-symbol-is .ensures) ∙ c .before .before .before .before .before .before .before .before .before .before .before .before .before .before .before .before .before .before .before .if1 .left)) ∙ need-met _ _ _ (ap not (sym (c .before .before .before .before .before .before .before .before .before .before .before .before .before .before .before .before .before .before .next-symbol-is2 .ensures) ∙ c .before .before .before .before .before .before .before .before .before .before .before .before .before .before .before .before .before .if2 .left)) ∙ then-read _ (read-1 (c .before .before .before .before .before .before .before .before .before .before .before) .eq) ∙ need-met _ _ _ (sym (c .before .before .before .before .before .before .before .before .before .next-symbol-is3 .ensures) ∙ not-false _ (c .before .before .before .before .before .before .before .before .if3 .left))) (rw (← (c .before .before .before .before .before .before .before .iterate .ensures), ← (c .before .before .before .before .before .before .iterate2 .ensures)) (pass _ (c .before .before .before .before .behind .ensures .1 _ _ _ _ (stands-step _ _ (c .before .before .before .before .before .before .iterate2 .ensures) (stands-step _ _ (c .before .before .before .before .before .before .before .iterate .ensures) (read-1 (c .before .before .before .before .before .before .before .before .before .before .before) .stands)))) (c .enum-told2 .given .1)))
 
   pub put-row-requires : lts.Need-put-row-requires cs (lambda-at t) lambda-reads.Post
   put-row-requires c κs = (fits-same _ _ _ (c .before .before .before .before .before .before .before .before .before .before .before .before .before .before .before .before .before .before .before .before .before .before .before .before .before .pre .1 .fits) (c .before .before .before .before .before .before .behind .kept .1 .0 ∙ c .before .before .before .before .before .before .before .before .before .before .before .before .before .before .before .before .before .list-expr .kept .1 .0), small (c .before .before .before .before .before .before .before .before .before .before .before .before .before .before .before .before .before .before .before .before .before .before .before .before .before .pre .1))
@@ -99,7 +103,5 @@ module _ (t : ℕ) where
   pub returns-6 : lts.Need-returns-6 cs (lambda-at t) lambda-reads.Post
   unfolding lambda item
   returns-6 c =
-      let h = taken (c .before .before .before .before .before .before .before .before .before .before .before .before .before .before .before .before .before .before .before .before .list-expr .ensures) (c .before .before .before .before .before .before .before .before .before .before .before .before .before .before .before .before .r .given .1) in
-      let q = taken (c .before .before .before .before .before .before .before .before .before .behind .ensures .1 _ _ _ _ (stands-step _ _ (c .before .before .before .before .before .before .before .before .before .before .before .iterate2 .ensures) (stands-step _ _ (c .before .before .before .before .before .before .before .before .before .before .before .before .iterate .ensures) (h .stands)))) (c .before .before .before .before .before .q .given .1) in
-      by-eq (need-met _ _ _ (ap not (sym (c .before .before .before .before .before .before .before .before .before .before .before .before .before .before .before .before .before .before .before .before .before .before .before .before .before .next-symbol-is .ensures) ∙ c .before .before .before .before .before .before .before .before .before .before .before .before .before .before .before .before .before .before .before .before .before .before .before .before .if1 .left)) ∙ need-met _ _ _ (ap not (sym (c .before .before .before .before .before .before .before .before .before .before .before .before .before .before .before .before .before .before .before .before .before .before .before .next-symbol-is2 .ensures) ∙ c .before .before .before .before .before .before .before .before .before .before .before .before .before .before .before .before .before .before .before .before .before .before .if2 .left)) ∙ then-read _ (h .eq) ∙ need-met _ _ _ (sym (c .before .before .before .before .before .before .before .before .before .before .before .before .before .before .next-symbol-is3 .ensures) ∙ not-false _ (c .before .before .before .before .before .before .before .before .before .before .before .before .before .if3 .left))) (rw (← (c .before .before .before .before .before .before .before .before .before .before .before .before .iterate .ensures), ← (c .before .before .before .before .before .before .before .before .before .before .before .iterate2 .ensures)) (by-eq (then-read _ (q .eq))
-      (c .before .before .put-row .ensures (c .before .before .before .before .before .before .before .before .before .before .before .before .before .before .before .before .before .before .before .before .before .before .before .before .before .before .before .before .args .tokens .now) (q .stands .within) .1 _ [] _ _ _ _ (q .stands) (record { few = tt; root = of-node; refs = (h .head, q .head, refl, refl) }))))
+      by-eq (need-met _ _ _ (ap not (sym (c .before .before .before .before .before .before .before .before .before .before .before .before .before .before .before .before .before .before .before .before .before .before .before .before .before .next-symbol-is .ensures) ∙ c .before .before .before .before .before .before .before .before .before .before .before .before .before .before .before .before .before .before .before .before .before .before .before .before .if1 .left)) ∙ need-met _ _ _ (ap not (sym (c .before .before .before .before .before .before .before .before .before .before .before .before .before .before .before .before .before .before .before .before .before .before .before .next-symbol-is2 .ensures) ∙ c .before .before .before .before .before .before .before .before .before .before .before .before .before .before .before .before .before .before .before .before .before .before .if2 .left)) ∙ then-read _ (read-1 (c .before .before .before .before .before .before .before .before .before .before .before .before .before .before .before .before) .eq) ∙ need-met _ _ _ (sym (c .before .before .before .before .before .before .before .before .before .before .before .before .before .before .next-symbol-is3 .ensures) ∙ not-false _ (c .before .before .before .before .before .before .before .before .before .before .before .before .before .if3 .left))) (rw (← (c .before .before .before .before .before .before .before .before .before .before .before .before .iterate .ensures), ← (c .before .before .before .before .before .before .before .before .before .before .before .iterate2 .ensures)) (by-eq (then-read _ (read-2 (c .before .before .before .before .before) .eq))
+      (c .before .before .put-row .ensures (c .before .before .before .before .before .before .before .before .before .before .before .before .before .before .before .before .before .before .before .before .before .before .before .before .before .before .before .before .args .tokens .now) (read-2 (c .before .before .before .before .before) .stands .within) .1 _ [] _ _ _ _ (read-2 (c .before .before .before .before .before) .stands) (record { few = tt; root = of-node; refs = (read-1 (c .before .before .before .before .before .before .before .before .before .before .before .before .before .before .before .before) .head, read-2 (c .before .before .before .before .before) .head, refl, refl) }))))

@@ -4,7 +4,7 @@ use mathlib.Core.Path.{sym, _∙_}
 use Prim.Native.Nat.{ℕ}
 use Rattle.grammar.specs.Expressions.{list-expr}
 use Rattle.parser.specs.Contracts.{item}
-use Rattle.parser.proofs.Answers.{taken, pass, by-eq, then-read, choose-true, choose-false, sooner, read-none}
+use Rattle.parser.proofs.Answers.{taken, TakenOf, pass, by-eq, then-read, choose-true, choose-false, sooner, read-none}
 use Rattle.parser.proofs.Moves.{falls, front-le, le-trans, on-step, ready-same, ready-step}
 use borrow.Author.Needs.{needs}
 use Rattle.parser.proofs.expressions.entries.Reads as entries-reads
@@ -18,6 +18,9 @@ use Rattle.parser.proofs.expressions.+around+array+at_keyword+at_operat
 module _ (t : ℕ) where
   abbrev cs : lts.Claims
   cs = (next-symbol-is-reads.Asked, next-symbol-is-reads.Learnt, iterate-reads.Asked, iterate-reads.Learnt, expression-below t, expression-reads.Post, entries-below t, entries-reads.Post)
+
+  read-1 : (c : lts.After-r cs (list-expr-at t) list-expr-reads.Post) → TakenOf (c .before .before .before .before .expression .ensures) (c .r .given .1)
+  read-1 c = taken (c .before .before .before .before .expression .ensures) (c .r .given .1)
 
   pub next-symbol-is-requires : lts.Need-next-symbol-is-requires cs (list-expr-at t) list-expr-reads.Post
   next-symbol-is-requires c κs = search needs
@@ -47,8 +50,7 @@ module _ (t : ℕ) where
 
   pub entries-requires : lts.Need-entries-requires cs (list-expr-at t) list-expr-reads.Post
   entries-requires c κs =
-      let h = taken (c .before .before .before .before .before .before .expression .ensures) (c .before .before .r .given .1) in
-      (falls _ _ _ _ _ _ _ (c .before .before .before .before .before .before .before .before .before .before .before .before .before .pre .0) (le-trans (on-step _ _ (c .before .before .before .before .before .before .before .iterate .ensures)) (h .stands .on)) (lit< tt), (ready-same (c .before .before .before .before .before .before .before .before .before .before .before .before .before .pre .1) (c .before .before .before .before .before .before .expression .kept .1 .0) (h .stands .within), front-le (h .stands .front)))
+      (falls _ _ _ _ _ _ _ (c .before .before .before .before .before .before .before .before .before .before .before .before .before .pre .0) (le-trans (on-step _ _ (c .before .before .before .before .before .before .before .iterate .ensures)) (read-1 (c .before .before) .stands .on)) (lit< tt), (ready-same (c .before .before .before .before .before .before .before .before .before .before .before .before .before .pre .1) (c .before .before .before .before .before .before .expression .kept .1 .0) (read-1 (c .before .before) .stands .within), front-le (read-1 (c .before .before) .stands .front)))
 
   pub same-length-2 : lts.Need-same-length-2 cs (list-expr-at t) list-expr-reads.Post
   same-length-2 c = c .before .before .entries .kept .1 .0 ∙ c .before .before .before .before .before .before .before .before .before .expression .kept .1 .0
@@ -56,5 +58,4 @@ module _ (t : ℕ) where
   pub returns-3 : lts.Need-returns-3 cs (list-expr-at t) list-expr-reads.Post
   unfolding list-expr item
   returns-3 c =
-      let h = taken (c .before .before .before .before .before .before .before .before .before .expression .ensures) (c .before .before .before .before .before .r .given .1) in
-      sooner (on-step _ _ (c .before .before .before .before .before .before .before .before .before .before .iterate .ensures)) (by-eq (choose-false _ _ (sym (c .before .before .before .before .before .before .before .before .before .before .before .before .before .next-symbol-is .ensures) ∙ c .before .before .before .before .before .before .before .before .before .before .before .before .if1 .left)) (rw (← (c .before .before .before .before .before .before .before .before .before .before .iterate .ensures)) (by-eq (then-read _ (h .eq)) (c .before .before .entries .ensures .1 _ _ _ _ (h .stands) (h .head)))))
+      sooner (on-step _ _ (c .before .before .before .before .before .before .before .before .before .before .iterate .ensures)) (by-eq (choose-false _ _ (sym (c .before .before .before .before .before .before .before .before .before .before .before .before .before .next-symbol-is .ensures) ∙ c .before .before .before .before .before .before .before .before .before .before .before .before .if1 .left)) (rw (← (c .before .before .before .before .before .before .before .before .before .before .iterate .ensures)) (by-eq (then-read _ (read-1 (c .before .before .before .before .before) .eq)) (c .before .before .entries .ensures .1 _ _ _ _ (read-1 (c .before .before .before .before .before) .stands) (read-1 (c .before .before .before .before .before) .head)))))

@@ -9,7 +9,7 @@ use Rattle.grammar.specs.Words.{SColon}
 use Rattle.grammar.specs.Expressions.{pair}
 use Rattle.parser.specs.Contracts.{item}
 use Rattle.parser.specs.Meets.{of-node}
-use Rattle.parser.proofs.Answers.{taken, pass, by-eq, refuses, then-read, need-met, need-failed}
+use Rattle.parser.proofs.Answers.{taken, TakenOf, pass, by-eq, refuses, then-read, need-met, need-failed}
 use Rattle.parser.proofs.Moves.{falls, fits-same, front-le, le-refl, moves-next, on-step, ready-same, ready-step, stands-step, within-step}
 use borrow.Author.Needs.{needs}
 use Rattle.parser.proofs.expressions.behind.Reads as behind-reads
@@ -24,6 +24,12 @@ use Rattle.parser.proofs.expressions.+around+array+at_keyword+at_operat
 module _ (t : ℕ) where
   abbrev cs : lts.Claims
   cs = (expression-below t, expression-reads.Post, iterate-reads.Asked, iterate-reads.Learnt, next-symbol-is-reads.Asked, next-symbol-is-reads.Learnt, behind-below t, behind-reads.Post, put-row-reads.Asked, put-row-reads.Learnt)
+
+  read-1 : (c : lts.After-r cs (pair-at t) pair-reads.Post) → TakenOf (c .before .before .before .before .expression .ensures) (c .r .given .1)
+  read-1 c = taken (c .before .before .before .before .expression .ensures) (c .r .given .1)
+
+  read-2 : (c : lts.After-q cs (pair-at t) pair-reads.Post) → TakenOf (c .before .before .before .before .behind .ensures .1 _ _ _ _ (stands-step _ _ (c .before .before .before .before .before .iterate2 .ensures) (stands-step _ _ (c .before .before .before .before .before .before .before .before .before .iterate .ensures) (read-1 (c .before .before .before .before .before .before .before .before .before .before .before) .stands)))) (c .q .given .1)
+  read-2 c = taken (c .before .before .before .before .behind .ensures .1 _ _ _ _ (stands-step _ _ (c .before .before .before .before .before .iterate2 .ensures) (stands-step _ _ (c .before .before .before .before .before .before .before .before .before .iterate .ensures) (read-1 (c .before .before .before .before .before .before .before .before .before .before .before) .stands)))) (c .q .given .1)
 
   pub expression-requires : lts.Need-expression-requires cs (pair-at t) pair-reads.Post
   expression-requires c κs = (falls _ _ _ _ _ _ _ (c .before .before .before .pre .0) (le-refl _) (lit< tt), c .before .before .before .pre .1)
@@ -52,17 +58,15 @@ module _ (t : ℕ) where
 
   pub returns-2 : lts.Need-returns-2 cs (pair-at t) pair-reads.Post
   unfolding pair
-  returns-2 c = let h = taken (c .before .before .before .before .before .before .before .before .expression .ensures) (c .before .before .before .before .r .given .1) in refuses _ _ _ (then-read _ (h .eq) ∙ need-failed _ _ _ (sym (c .before .next-symbol-is .ensures) ∙ not-true _ (c .if1 .taken)))
+  returns-2 c = refuses _ _ _ (then-read _ (read-1 (c .before .before .before .before) .eq) ∙ need-failed _ _ _ (sym (c .before .next-symbol-is .ensures) ∙ not-true _ (c .if1 .taken)))
 
   pub iterate-requires-2 : lts.Need-iterate-requires-2 cs (pair-at t) pair-reads.Post
   iterate-requires-2 c κs = search needs
 
   pub behind-requires : lts.Need-behind-requires cs (pair-at t) pair-reads.Post
   behind-requires c κs =
-      let h = taken (c .before .before .before .before .before .before .before .before .before .before .expression .ensures) (c .before .before .before .before .before .before .r .given .1) in (
-        omega (arith, c .before .before .before .before .before .before .before .before .before .before .before .before .before .before .pre .0, h .stands .on, h .stands .within, moves-next SColon (c .before .before .before .before .before .before .before .before .before .before .before .before .before .before .pre .1 .sound) (h .stands .within) (sym (c .before .before .before .next-symbol-is .ensures) ∙ not-false _ (c .before .before .if1 .left)) refl, c .before .before .before .before .iterate .ensures, on-step _ _ (c .iterate2 .ensures)),
-        (ready-step _ _ (c .iterate2 .ensures) (ready-step _ _ (c .before .before .before .before .iterate .ensures) (ready-same (c .before .before .before .before .before .before .before .before .before .before .before .before .before .before .pre .1) (c .before .before .before .before .before .before .before .before .before .before .expression .kept .1 .0) (h .stands .within))), front-le (h .stands .front)),
-      )
+      (omega (arith, c .before .before .before .before .before .before .before .before .before .before .before .before .before .before .pre .0, read-1 (c .before .before .before .before .before .before) .stands .on, read-1 (c .before .before .before .before .before .before) .stands .within, moves-next SColon (c .before .before .before .before .before .before .before .before .before .before .before .before .before .before .pre .1 .sound) (read-1 (c .before .before .before .before .before .before) .stands .within) (sym (c .before .before .before .next-symbol-is .ensures) ∙ not-false _ (c .before .before .if1 .left)) refl, c .before .before .before .before .iterate .ensures, on-step _ _ (c .iterate2 .ensures)),
+      (ready-step _ _ (c .iterate2 .ensures) (ready-step _ _ (c .before .before .before .before .iterate .ensures) (ready-same (c .before .before .before .before .before .before .before .before .before .before .before .before .before .before .pre .1) (c .before .before .before .before .before .before .before .before .before .before .expression .kept .1 .0) (read-1 (c .before .before .before .before .before .before) .stands .within))), front-le (read-1 (c .before .before .before .before .before .before) .stands .front)))
 
   pub enum-known-q : lts.Need-enum-known-q cs (pair-at t) pair-reads.Post
   enum-known-q c = search needs
@@ -75,12 +79,11 @@ module _ (t : ℕ) where
 
   pub returns-3 : lts.Need-returns-3 cs (pair-at t) pair-reads.Post
   unfolding pair item
-  returns-3 c = let h = taken (c .before .before .before .before .before .before .before .before .before .before .before .before .before .before .before .expression .ensures) (c .before .before .before .before .before .before .before .before .before .before .before .r .given .1) in by-eq (then-read _ (h .eq) ∙ need-met _ _ _ (sym (c .before .before .before .before .before .before .before .before .next-symbol-is .ensures) ∙ not-false _ (c .before .before .before .before .before .before .before .if1 .left))) (rw (← (c .before .before .before .before .before .before .before .before .before .iterate .ensures), ← (c .before .before .before .before .before .iterate2 .ensures)) (pass _ (c .before .before .before .before .behind .ensures .1 _ _ _ _ (stands-step _ _ (c .before .before .before .before .before .iterate2 .ensures) (stands-step _ _ (c .before .before .before .before .before .before .before .before .before .iterate .ensures) (h .stands)))) (c .enum-told2 .given .1)))
+  returns-3 c = by-eq (then-read _ (read-1 (c .before .before .before .before .before .before .before .before .before .before .before) .eq) ∙ need-met _ _ _ (sym (c .before .before .before .before .before .before .before .before .next-symbol-is .ensures) ∙ not-false _ (c .before .before .before .before .before .before .before .if1 .left))) (rw (← (c .before .before .before .before .before .before .before .before .before .iterate .ensures), ← (c .before .before .before .before .before .iterate2 .ensures)) (pass _ (c .before .before .before .before .behind .ensures .1 _ _ _ _ (stands-step _ _ (c .before .before .before .before .before .iterate2 .ensures) (stands-step _ _ (c .before .before .before .before .before .before .before .before .before .iterate .ensures) (read-1 (c .before .before .before .before .before .before .before .before .before .before .before) .stands)))) (c .enum-told2 .given .1)))
 
   pub put-row-requires : lts.Need-put-row-requires cs (pair-at t) pair-reads.Post
   put-row-requires c κs =
-      let h = taken (c .before .before .before .before .before .before .before .before .before .before .before .before .before .before .before .before .before .expression .ensures) (c .before .before .before .before .before .before .before .before .before .before .before .before .before .r .given .1) in
-      (fits-same _ _ _ (c .before .before .before .before .before .before .before .before .before .before .before .before .before .before .before .before .before .before .before .before .before .pre .1 .fits) (c .before .before .before .before .before .before .behind .kept .1 .0 ∙ c .before .before .before .before .before .before .before .before .before .before .before .before .before .before .before .before .before .expression .kept .1 .0), omega (arith, within-step _ _ (c .before .before .before .before .before .before .before .before .before .before .before .iterate .ensures) (h .stands .within), c .before .before .before .before .before .before .before .before .before .before .before .before .before .before .before .before .before .before .before .before .before .pre .1 .sound .few))
+      (fits-same _ _ _ (c .before .before .before .before .before .before .before .before .before .before .before .before .before .before .before .before .before .before .before .before .before .pre .1 .fits) (c .before .before .before .before .before .before .behind .kept .1 .0 ∙ c .before .before .before .before .before .before .before .before .before .before .before .before .before .before .before .before .before .expression .kept .1 .0), omega (arith, within-step _ _ (c .before .before .before .before .before .before .before .before .before .before .before .iterate .ensures) (read-1 (c .before .before .before .before .before .before .before .before .before .before .before .before .before) .stands .within), c .before .before .before .before .before .before .before .before .before .before .before .before .before .before .before .before .before .before .before .before .before .pre .1 .sound .few))
 
   pub same-length-4 : lts.Need-same-length-4 cs (pair-at t) pair-reads.Post
   same-length-4 c = c .before .before .put-row .kept .0 ∙ c .before .before .before .before .before .before .before .before .before .behind .kept .1 .0 ∙ c .before .before .before .before .before .before .before .before .before .before .before .before .before .before .before .before .before .before .before .before .expression .kept .1 .0
@@ -88,7 +91,5 @@ module _ (t : ℕ) where
   pub returns-4 : lts.Need-returns-4 cs (pair-at t) pair-reads.Post
   unfolding pair item
   returns-4 c =
-      let h = taken (c .before .before .before .before .before .before .before .before .before .before .before .before .before .before .before .before .before .before .before .before .expression .ensures) (c .before .before .before .before .before .before .before .before .before .before .before .before .before .before .before .before .r .given .1) in
-      let q = taken (c .before .before .before .before .before .before .before .before .before .behind .ensures .1 _ _ _ _ (stands-step _ _ (c .before .before .before .before .before .before .before .before .before .before .iterate2 .ensures) (stands-step _ _ (c .before .before .before .before .before .before .before .before .before .before .before .before .before .before .iterate .ensures) (h .stands)))) (c .before .before .before .before .before .q .given .1) in
-      by-eq (then-read _ (h .eq) ∙ need-met _ _ _ (sym (c .before .before .before .before .before .before .before .before .before .before .before .before .before .next-symbol-is .ensures) ∙ not-false _ (c .before .before .before .before .before .before .before .before .before .before .before .before .if1 .left))) (rw (← (c .before .before .before .before .before .before .before .before .before .before .before .before .before .before .iterate .ensures), ← (c .before .before .before .before .before .before .before .before .before .before .iterate2 .ensures)) (by-eq (then-read _ (q .eq))
-      (c .before .before .put-row .ensures (c .before .before .before .before .before .before .before .before .before .before .before .before .before .before .before .before .before .before .before .before .before .before .before .before .args .tokens .now) (q .stands .within) .1 _ [] _ _ _ _ (q .stands) (record { few = tt; root = of-node; refs = (h .head, q .head, refl, refl) }))))
+      by-eq (then-read _ (read-1 (c .before .before .before .before .before .before .before .before .before .before .before .before .before .before .before .before) .eq) ∙ need-met _ _ _ (sym (c .before .before .before .before .before .before .before .before .before .before .before .before .before .next-symbol-is .ensures) ∙ not-false _ (c .before .before .before .before .before .before .before .before .before .before .before .before .if1 .left))) (rw (← (c .before .before .before .before .before .before .before .before .before .before .before .before .before .before .iterate .ensures), ← (c .before .before .before .before .before .before .before .before .before .before .iterate2 .ensures)) (by-eq (then-read _ (read-2 (c .before .before .before .before .before) .eq))
+      (c .before .before .put-row .ensures (c .before .before .before .before .before .before .before .before .before .before .before .before .before .before .before .before .before .before .before .before .before .before .before .before .args .tokens .now) (read-2 (c .before .before .before .before .before) .stands .within) .1 _ [] _ _ _ _ (read-2 (c .before .before .before .before .before) .stands) (record { few = tt; root = of-node; refs = (read-1 (c .before .before .before .before .before .before .before .before .before .before .before .before .before .before .before .before) .head, read-2 (c .before .before .before .before .before) .head, refl, refl) }))))

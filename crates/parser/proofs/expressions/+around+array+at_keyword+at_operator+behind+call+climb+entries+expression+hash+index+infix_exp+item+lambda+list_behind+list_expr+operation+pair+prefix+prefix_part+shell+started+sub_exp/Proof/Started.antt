@@ -5,7 +5,7 @@ use Prim.Native.Nat.{ℕ}
 use lib.Dec.{eqb}
 use borrow.Author.Tests.{eq-eqb, ne-eqb}
 use Rattle.grammar.specs.Expressions.{started}
-use Rattle.parser.proofs.Answers.{taken, pass, by-eq, refuses, sooner, then-read, need-met, need-failed}
+use Rattle.parser.proofs.Answers.{taken, TakenOf, pass, by-eq, refuses, sooner, then-read, need-met, need-failed}
 use Rattle.parser.proofs.Moves.{falls, on-step, ready-step}
 use Rattle.parser.proofs.Roots.{is-called}
 use Rattle.parser.proofs.Matches.{reads-marked}
@@ -21,6 +21,9 @@ use Rattle.parser.proofs.expressions.+around+array+at_keyword+at_operat
 module _ (t : ℕ) where
   abbrev cs : lts.Claims
   cs = (iterate-reads.Asked, iterate-reads.Learnt, expression-below t, expression-reads.Post, kind-reads.Asked, kind-reads.Learnt, mark-reads.Asked, mark-reads.Learnt)
+
+  read-1 : (c : lts.After-r cs (started-at t) started-reads.Post) → TakenOf (c .before .before .before .before .expression .ensures) (c .r .given .1)
+  read-1 c = taken (c .before .before .before .before .expression .ensures) (c .r .given .1)
 
   pub iterate-requires : lts.Need-iterate-requires cs (started-at t) started-reads.Post
   iterate-requires c κs = search needs
@@ -49,7 +52,7 @@ module _ (t : ℕ) where
 
   pub returns-2 : lts.Need-returns-2 cs (started-at t) started-reads.Post
   unfolding started
-  returns-2 c = let h = taken (c .before .before .before .before .before .before .before .before .expression .ensures) (c .before .before .before .before .r .given .1) in refuses _ _ _ (rw (← (c .before .before .before .before .before .before .before .before .before .iterate .ensures)) (then-read _ (h .eq) ∙ need-failed _ _ _ (is-called _ (h .stands) ∙ ap (λ (n : ℕ). eqb n 11) (sym (c .before .kind .ensures)) ∙ ne-eqb _ _ (c .if1 .taken))))
+  returns-2 c = refuses _ _ _ (rw (← (c .before .before .before .before .before .before .before .before .before .iterate .ensures)) (then-read _ (read-1 (c .before .before .before .before) .eq) ∙ need-failed _ _ _ (is-called _ (read-1 (c .before .before .before .before) .stands) ∙ ap (λ (n : ℕ). eqb n 11) (sym (c .before .kind .ensures)) ∙ ne-eqb _ _ (c .if1 .taken))))
 
   pub mark-requires : lts.Need-mark-requires cs (started-at t) started-reads.Post
   mark-requires c κs = search needs
@@ -60,5 +63,4 @@ module _ (t : ℕ) where
   pub returns-3 : lts.Need-returns-3 cs (started-at t) started-reads.Post
   unfolding started
   returns-3 c =
-      let h = taken (c .before .before .before .before .before .before .before .before .before .before .before .before .expression .ensures) (c .before .before .before .before .before .before .before .before .r .given .1) in
-      sooner (on-step _ _ (c .before .before .before .before .before .before .before .before .before .before .before .before .before .iterate .ensures)) (by-eq (rw (← (c .before .before .before .before .before .before .before .before .before .before .before .before .before .iterate .ensures)) (then-read _ (h .eq) ∙ need-met _ _ _ (is-called _ (h .stands) ∙ ap (λ (n : ℕ). eqb n 11) (sym (c .before .before .before .before .before .kind .ensures)) ∙ eq-eqb _ _ (c .before .before .before .before .if1 .left)))) (reads-marked _ _ (h .stands) (h .head) (c .before .before .mark .ensures)))
+      sooner (on-step _ _ (c .before .before .before .before .before .before .before .before .before .before .before .before .before .iterate .ensures)) (by-eq (rw (← (c .before .before .before .before .before .before .before .before .before .before .before .before .before .iterate .ensures)) (then-read _ (read-1 (c .before .before .before .before .before .before .before .before) .eq) ∙ need-met _ _ _ (is-called _ (read-1 (c .before .before .before .before .before .before .before .before) .stands) ∙ ap (λ (n : ℕ). eqb n 11) (sym (c .before .before .before .before .before .kind .ensures)) ∙ eq-eqb _ _ (c .before .before .before .before .if1 .left)))) (reads-marked _ _ (read-1 (c .before .before .before .before .before .before .before .before) .stands) (read-1 (c .before .before .before .before .before .before .before .before) .head) (c .before .before .mark .ensures)))

@@ -4,7 +4,7 @@ use mathlib.Core.Path.{sym, ap, _∙_}
 use mathlib.Core.Bool.{not}
 use borrow.Author.Tests.{not-true, not-false}
 use Rattle.grammar.specs.Expressions.{sub-expression}
-use Rattle.parser.proofs.Answers.{taken, pass, by-eq, refuses, sooner, then-read, need-met, need-failed}
+use Rattle.parser.proofs.Answers.{taken, TakenOf, pass, by-eq, refuses, sooner, then-read, need-met, need-failed}
 use Rattle.parser.proofs.Moves.{falls, on-step, ready-step, stands-step}
 use Rattle.parser.proofs.Matches.{reads-marked}
 use borrow.Author.Needs.{needs}
@@ -20,6 +20,9 @@ use Rattle.parser.proofs.expressions.+around+array+at_keyword+at_operat
 module _ (t : ℕ) where
   abbrev cs : lts.Claims
   cs = (iterate-reads.Asked, iterate-reads.Learnt, next-symbol-is-reads.Asked, next-symbol-is-reads.Learnt, expression-below t, expression-reads.Post, mark-reads.Asked, mark-reads.Learnt)
+
+  read-1 : (c : lts.After-r cs (sub-exp-at t) sub-exp-reads.Post) → TakenOf (c .before .before .before .before .expression .ensures) (c .r .given .1)
+  read-1 c = taken (c .before .before .before .before .expression .ensures) (c .r .given .1)
 
   pub iterate-requires : lts.Need-iterate-requires cs (sub-exp-at t) sub-exp-reads.Post
   iterate-requires c κs = search needs
@@ -55,7 +58,7 @@ module _ (t : ℕ) where
 
   pub returns-3 : lts.Need-returns-3 cs (sub-exp-at t) sub-exp-reads.Post
   unfolding sub-expression
-  returns-3 c = let h = taken (c .before .before .before .before .before .before .before .expression .ensures) (c .before .before .before .r .given .1) in refuses _ _ _ (rw (← (c .before .before .before .before .before .before .before .before .before .before .before .iterate .ensures)) (need-met _ _ _ (ap not (sym (c .before .before .before .before .before .before .before .before .before .before .next-symbol-is .ensures) ∙ c .before .before .before .before .before .before .before .before .before .if1 .left)) ∙ then-read _ (h .eq) ∙ need-failed _ _ _ (sym (c .before .next-symbol-is2 .ensures) ∙ not-true _ (c .if2 .taken))))
+  returns-3 c = refuses _ _ _ (rw (← (c .before .before .before .before .before .before .before .before .before .before .before .iterate .ensures)) (need-met _ _ _ (ap not (sym (c .before .before .before .before .before .before .before .before .before .before .next-symbol-is .ensures) ∙ c .before .before .before .before .before .before .before .before .before .if1 .left)) ∙ then-read _ (read-1 (c .before .before .before) .eq) ∙ need-failed _ _ _ (sym (c .before .next-symbol-is2 .ensures) ∙ not-true _ (c .if2 .taken))))
 
   pub mark-requires : lts.Need-mark-requires cs (sub-exp-at t) sub-exp-reads.Post
   mark-requires c κs = search needs
@@ -69,7 +72,6 @@ module _ (t : ℕ) where
   pub returns-4 : lts.Need-returns-4 cs (sub-exp-at t) sub-exp-reads.Post
   unfolding sub-expression
   returns-4 c =
-      let h = taken (c .before .before .before .before .before .before .before .before .before .before .before .before .expression .ensures) (c .before .before .before .before .before .before .before .before .r .given .1) in
       sooner (on-step _ _ (c .before .before .before .before .before .before .before .before .before .before .before .before .before .before .before .before .iterate .ensures)) (rw (← (c .before .before .before .before .before .before .before .before .before .before .before .before .before .before .before .before .iterate .ensures))
-      (by-eq (need-met _ _ _ (ap not (sym (c .before .before .before .before .before .before .before .before .before .before .before .before .before .before .before .next-symbol-is .ensures) ∙ c .before .before .before .before .before .before .before .before .before .before .before .before .before .before .if1 .left)) ∙ then-read _ (h .eq) ∙ need-met _ _ _ (sym (c .before .before .before .before .before .before .next-symbol-is2 .ensures) ∙ not-false _ (c .before .before .before .before .before .if2 .left)))
-      (rw (← c .iterate2 .ensures) (reads-marked _ _ (stands-step _ _ (c .iterate2 .ensures) (h .stands)) (h .head) (c .before .before .before .mark .ensures)))))
+      (by-eq (need-met _ _ _ (ap not (sym (c .before .before .before .before .before .before .before .before .before .before .before .before .before .before .before .next-symbol-is .ensures) ∙ c .before .before .before .before .before .before .before .before .before .before .before .before .before .before .if1 .left)) ∙ then-read _ (read-1 (c .before .before .before .before .before .before .before .before) .eq) ∙ need-met _ _ _ (sym (c .before .before .before .before .before .before .next-symbol-is2 .ensures) ∙ not-false _ (c .before .before .before .before .before .if2 .left)))
+      (rw (← c .iterate2 .ensures) (reads-marked _ _ (stands-step _ _ (c .iterate2 .ensures) (read-1 (c .before .before .before .before .before .before .before .before) .stands)) (read-1 (c .before .before .before .before .before .before .before .before) .head) (c .before .before .before .mark .ensures)))))

@@ -6,7 +6,7 @@ use Prim.Native.Nat.{ℕ}
 use native.Mathlib.Omega.{arith}
 use Rattle.grammar.specs.Statements.{block, opened}
 use Rattle.parser.specs.Meets.{of-node}
-use Rattle.parser.proofs.Answers.{at-once, taken, pass, by-eq, then-read, choose-true, choose-false, sooner}
+use Rattle.parser.proofs.Answers.{at-once, taken, TakenOf, pass, by-eq, then-read, choose-true, choose-false, sooner}
 use Rattle.parser.proofs.Moves.{falls, fits-same, front-le, le-trans, on-step, ready-same, ready-step, stands-step, within-step}
 use borrow.Author.Needs.{needs}
 use Rattle.parser.proofs.statements.block.Reads as block-reads
@@ -21,6 +21,12 @@ use Rattle.parser.proofs.statements.+at_keyword+block+block_behind+body
 module _ (t : ℕ) where
   abbrev cs : lts.Claims
   cs = (iterate-reads.Asked, iterate-reads.Learnt, next-symbol-is-reads.Asked, next-symbol-is-reads.Learnt, put-row-reads.Asked, put-row-reads.Learnt, statement-below t, statement-reads.Post, statements-below t, statements-reads.Post)
+
+  read-1 : (c : lts.After-r cs (block-at t) block-reads.Post) → TakenOf (c .before .before .before .before .statement .ensures) (c .r .given .1)
+  read-1 c = taken (c .before .before .before .before .statement .ensures) (c .r .given .1)
+
+  read-2 : (c : lts.After-q cs (block-at t) block-reads.Post) → TakenOf (c .before .before .before .before .statements .ensures .1 _ _ _ _ (stands-step _ _ (c .before .before .before .before .before .before .iterate3 .ensures) (read-1 (c .before .before .before .before .before .before .before .before) .stands)) (read-1 (c .before .before .before .before .before .before .before .before) .head)) (c .q .given .1)
+  read-2 c = taken (c .before .before .before .before .statements .ensures .1 _ _ _ _ (stands-step _ _ (c .before .before .before .before .before .before .iterate3 .ensures) (read-1 (c .before .before .before .before .before .before .before .before) .stands)) (read-1 (c .before .before .before .before .before .before .before .before) .head)) (c .q .given .1)
 
   pub iterate-requires : lts.Need-iterate-requires cs (block-at t) block-reads.Post
   iterate-requires c κs = search needs
@@ -65,10 +71,8 @@ module _ (t : ℕ) where
 
   pub statements-requires : lts.Need-statements-requires cs (block-at t) block-reads.Post
   statements-requires c κs =
-      let h = taken (c .before .before .before .before .before .before .before .statement .ensures) (c .before .before .before .r .given .1) in (
-        falls _ _ _ _ _ _ _ (c .before .before .before .before .before .before .before .before .before .before .before .before .before .before .before .pre .0) (le-trans (on-step _ _ (c .before .before .before .before .before .before .before .before .before .before .before .before .iterate .ensures)) (le-trans (on-step _ _ (c .before .before .before .before .before .before .before .before .before .before .before .iterate2 .ensures)) (le-trans (h .stands .on) (on-step _ _ (c .before .iterate3 .ensures))))) (lit< tt),
-        (ready-step _ _ (c .before .iterate3 .ensures) (ready-same (c .before .before .before .before .before .before .before .before .before .before .before .before .before .before .before .pre .1) (c .before .before .before .before .before .before .before .statement .kept .1 .0) (h .stands .within)), front-le (h .stands .front)),
-      )
+      (falls _ _ _ _ _ _ _ (c .before .before .before .before .before .before .before .before .before .before .before .before .before .before .before .pre .0) (le-trans (on-step _ _ (c .before .before .before .before .before .before .before .before .before .before .before .before .iterate .ensures)) (le-trans (on-step _ _ (c .before .before .before .before .before .before .before .before .before .before .before .iterate2 .ensures)) (le-trans (read-1 (c .before .before .before) .stands .on) (on-step _ _ (c .before .iterate3 .ensures))))) (lit< tt),
+      (ready-step _ _ (c .before .iterate3 .ensures) (ready-same (c .before .before .before .before .before .before .before .before .before .before .before .before .before .before .before .pre .1) (c .before .before .before .before .before .before .before .statement .kept .1 .0) (read-1 (c .before .before .before) .stands .within)), front-le (read-1 (c .before .before .before) .stands .front)))
 
   pub enum-known-q : lts.Need-enum-known-q cs (block-at t) block-reads.Post
   enum-known-q c = search needs
@@ -81,7 +85,7 @@ module _ (t : ℕ) where
 
   pub returns-3 : lts.Need-returns-3 cs (block-at t) block-reads.Post
   unfolding block opened
-  returns-3 c = let h = taken (c .before .before .before .before .before .before .before .before .before .before .before .before .statement .ensures) (c .before .before .before .before .before .before .before .before .r .given .1) in rw (← (c .before .before .before .before .before .before .before .before .before .before .before .before .before .before .before .before .before .iterate .ensures)) (by-eq (choose-false _ _ (sym (c .before .before .before .before .before .before .before .before .before .before .before .before .before .before .before .next-symbol-is .ensures) ∙ c .before .before .before .before .before .before .before .before .before .before .before .before .before .before .if1 .left)) (rw (← (c .before .before .before .before .before .before .before .before .before .before .before .before .before .before .before .before .iterate2 .ensures)) (by-eq (then-read _ (h .eq)) (rw (← (c .before .before .before .before .before .before .iterate3 .ensures)) (pass _ (c .before .before .before .before .statements .ensures .1 _ _ _ _ (stands-step _ _ (c .before .before .before .before .before .before .iterate3 .ensures) (h .stands)) (h .head)) (c .enum-told2 .given .1))))))
+  returns-3 c = rw (← (c .before .before .before .before .before .before .before .before .before .before .before .before .before .before .before .before .before .iterate .ensures)) (by-eq (choose-false _ _ (sym (c .before .before .before .before .before .before .before .before .before .before .before .before .before .before .before .next-symbol-is .ensures) ∙ c .before .before .before .before .before .before .before .before .before .before .before .before .before .before .if1 .left)) (rw (← (c .before .before .before .before .before .before .before .before .before .before .before .before .before .before .before .before .iterate2 .ensures)) (by-eq (then-read _ (read-1 (c .before .before .before .before .before .before .before .before) .eq)) (rw (← (c .before .before .before .before .before .before .iterate3 .ensures)) (pass _ (c .before .before .before .before .statements .ensures .1 _ _ _ _ (stands-step _ _ (c .before .before .before .before .before .before .iterate3 .ensures) (read-1 (c .before .before .before .before .before .before .before .before) .stands)) (read-1 (c .before .before .before .before .before .before .before .before) .head)) (c .enum-told2 .given .1))))))
 
   pub put-row-requires-2 : lts.Need-put-row-requires-2 cs (block-at t) block-reads.Post
   put-row-requires-2 c κs = (fits-same _ _ _ (c .before .before .before .before .before .before .before .before .before .before .before .before .before .before .before .before .before .before .before .before .before .before .pre .1 .fits) (c .before .before .before .before .before .before .statements .kept .1 .0 ∙ c .before .before .before .before .before .before .before .before .before .before .before .before .before .before .statement .kept .1 .0), omega (arith, within-step _ _ (c .before .before .before .before .before .before .before .before .before .before .before .before .before .before .before .before .before .before .before .iterate .ensures) (c .before .before .before .before .before .before .before .before .before .before .before .before .before .before .before .before .before .before .before .before .before .before .pre .1 .within), c .before .before .before .before .before .before .before .before .before .before .before .before .before .before .before .before .before .before .before .before .before .before .pre .1 .sound .few))
@@ -92,8 +96,6 @@ module _ (t : ℕ) where
   pub returns-4 : lts.Need-returns-4 cs (block-at t) block-reads.Post
   unfolding block opened
   returns-4 c =
-      let h = taken (c .before .before .before .before .before .before .before .before .before .before .before .before .before .before .before .before .before .statement .ensures) (c .before .before .before .before .before .before .before .before .before .before .before .before .before .r .given .1) in
-      let q = taken (c .before .before .before .before .before .before .before .before .before .statements .ensures .1 _ _ _ _ (stands-step _ _ (c .before .before .before .before .before .before .before .before .before .before .before .iterate3 .ensures) (h .stands)) (h .head)) (c .before .before .before .before .before .q .given .1) in
       sooner (le-trans (on-step _ _ (c .before .before .before .before .before .before .before .before .before .before .before .before .before .before .before .before .before .before .before .before .before .before .iterate .ensures)) (on-step _ _ (c .before .before .before .before .before .before .before .before .before .before .before .before .before .before .before .before .before .before .before .before .before .iterate2 .ensures)))
-      (rw (← (c .before .before .before .before .before .before .before .before .before .before .before .before .before .before .before .before .before .before .before .before .before .before .iterate .ensures)) (by-eq (choose-false _ _ (sym (c .before .before .before .before .before .before .before .before .before .before .before .before .before .before .before .before .before .before .before .before .next-symbol-is .ensures) ∙ c .before .before .before .before .before .before .before .before .before .before .before .before .before .before .before .before .before .before .before .if1 .left)) (rw (← (c .before .before .before .before .before .before .before .before .before .before .before .before .before .before .before .before .before .before .before .before .before .iterate2 .ensures)) (by-eq (then-read _ (h .eq)) (rw (← (c .before .before .before .before .before .before .before .before .before .before .before .iterate3 .ensures)) (by-eq (then-read _ (q .eq))
-      (c .before .before .put-row2 .ensures (c .before .before .before .before .before .before .before .before .before .before .before .before .before .before .before .before .before .before .before .before .before .before .before .before .before .args .tokens .now) (q .stands .within) .1 _ [] _ _ _ _ (q .stands) (record { few = tt; root = of-node; refs = (q .head, refl, refl, refl) }))))))))
+      (rw (← (c .before .before .before .before .before .before .before .before .before .before .before .before .before .before .before .before .before .before .before .before .before .before .iterate .ensures)) (by-eq (choose-false _ _ (sym (c .before .before .before .before .before .before .before .before .before .before .before .before .before .before .before .before .before .before .before .before .next-symbol-is .ensures) ∙ c .before .before .before .before .before .before .before .before .before .before .before .before .before .before .before .before .before .before .before .if1 .left)) (rw (← (c .before .before .before .before .before .before .before .before .before .before .before .before .before .before .before .before .before .before .before .before .before .iterate2 .ensures)) (by-eq (then-read _ (read-1 (c .before .before .before .before .before .before .before .before .before .before .before .before .before) .eq)) (rw (← (c .before .before .before .before .before .before .before .before .before .before .before .iterate3 .ensures)) (by-eq (then-read _ (read-2 (c .before .before .before .before .before) .eq))
+      (c .before .before .put-row2 .ensures (c .before .before .before .before .before .before .before .before .before .before .before .before .before .before .before .before .before .before .before .before .before .before .before .before .before .args .tokens .now) (read-2 (c .before .before .before .before .before) .stands .within) .1 _ [] _ _ _ _ (read-2 (c .before .before .before .before .before) .stands) (record { few = tt; root = of-node; refs = (read-2 (c .before .before .before .before .before) .head, refl, refl, refl) }))))))))

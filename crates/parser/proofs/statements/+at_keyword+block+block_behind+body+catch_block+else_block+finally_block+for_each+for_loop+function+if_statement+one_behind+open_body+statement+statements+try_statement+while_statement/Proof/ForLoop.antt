@@ -11,7 +11,7 @@ use Rattle.grammar.specs.Expressions.{Rec, expression}
 use Rattle.grammar.specs.Statements.{statement, block, for}
 use Rattle.parser.specs.Meets.{of-node}
 use Rattle.parser.specs.Contracts.{behind-sign, body}
-use Rattle.parser.proofs.Answers.{taken, by-eq, sooner, Starts, starts-at, goes, pass-on}
+use Rattle.parser.proofs.Answers.{taken, TakenOf, by-eq, sooner, Starts, starts-at, goes, pass-on}
 use Rattle.parser.proofs.Bodies.{sign-then, body-then}
 use Rattle.parser.proofs.Moves.{falls, fits-same, front-le, le-trans, on-step, ready-same, ready-step, small}
 use borrow.Author.Needs.{needs}
@@ -49,6 +49,15 @@ module _ (t : ℕ) where
   abbrev cs : lts.Claims
   cs = (iterate-reads.Asked, iterate-reads.Learnt, expression-reads.Asked, expression-reads.Learnt, behind-sign-reads.Asked, behind-sign-reads.Learnt, body-below t, body-reads.Post, put-row-reads.Asked, put-row-reads.Learnt)
 
+  read-1 : (c : lts.After-r0 cs (for-loop-at t) for-loop-reads.Post) → TakenOf (c .before .before .before .before .expression .ensures) (c .r0 .given .1)
+  read-1 c = taken (c .before .before .before .before .expression .ensures) (c .r0 .given .1)
+
+  read-2 : (c : lts.After-r1 cs (for-loop-at t) for-loop-reads.Post) → TakenOf (c .before .before .before .before .behind-sign .ensures .1 _ _ _ _ (read-1 (c .before .before .before .before .before .before .before) .stands)) (c .r1 .given .1)
+  read-2 c = taken (c .before .before .before .before .behind-sign .ensures .1 _ _ _ _ (read-1 (c .before .before .before .before .before .before .before) .stands)) (c .r1 .given .1)
+
+  read-3 : (c : lts.After-r2 cs (for-loop-at t) for-loop-reads.Post) → TakenOf (c .before .before .before .before .body .ensures .1 _ _ _ _ (read-2 (c .before .before .before .before .before .before .before) .stands)) (c .r2 .given .1)
+  read-3 c = taken (c .before .before .before .before .body .ensures .1 _ _ _ _ (read-2 (c .before .before .before .before .before .before .before) .stands)) (c .r2 .given .1)
+
   pub iterate-requires : lts.Need-iterate-requires cs (for-loop-at t) for-loop-reads.Post
   iterate-requires c κs = search needs
 
@@ -68,7 +77,7 @@ module _ (t : ℕ) where
   returns c = pass-on (first (c .before .before .before .before .before .before .before .before .before .args .tokens .now) (expression (c .before .before .before .before .before .before .before .before .before .args .tokens .now) (c .before .before .before .before .before .before .before .before .before .args .less)) (statement (c .before .before .before .before .before .before .before .before .before .args .tokens .now) (c .before .before .before .before .before .before .before .before .before .args .less)) _ _ (c .before .before .before .before .before .iterate .ensures)) (c .before .before .before .before .expression .ensures) (c .enum-told .given .1)
 
   pub behind-sign-requires : lts.Need-behind-sign-requires cs (for-loop-at t) for-loop-reads.Post
-  behind-sign-requires c κs = let h = taken (c .before .before .before .before .before .before .expression .ensures) (c .before .before .r0 .given .1) in (ready-same (c .before .before .before .before .before .before .before .before .before .before .before .pre .1) (c .before .before .before .before .before .before .expression .kept .1 .0) (h .stands .within), front-le (h .stands .front))
+  behind-sign-requires c κs = (ready-same (c .before .before .before .before .before .before .before .before .before .before .before .pre .1) (c .before .before .before .before .before .before .expression .kept .1 .0) (read-1 (c .before .before) .stands .within), front-le (read-1 (c .before .before) .stands .front))
 
   pub enum-known-r1 : lts.Need-enum-known-r1 cs (for-loop-at t) for-loop-reads.Post
   enum-known-r1 c = search needs
@@ -80,13 +89,11 @@ module _ (t : ℕ) where
   same-length-2 c = c .before .before .before .before .behind-sign .kept .1 .0 ∙ c .before .before .before .before .before .before .before .before .before .before .before .expression .kept .1 .0
 
   pub returns-2 : lts.Need-returns-2 cs (for-loop-at t) for-loop-reads.Post
-  returns-2 c = let h = taken (c .before .before .before .before .before .before .before .before .before .before .before .expression .ensures) (c .before .before .before .before .before .before .before .r0 .given .1) in pass-on (second (c .before .before .before .before .before .before .before .before .before .before .before .before .before .before .before .before .args .tokens .now) (expression (c .before .before .before .before .before .before .before .before .before .before .before .before .before .before .before .before .args .tokens .now) (c .before .before .before .before .before .before .before .before .before .before .before .before .before .before .before .before .args .less)) (statement (c .before .before .before .before .before .before .before .before .before .before .before .before .before .before .before .before .args .tokens .now) (c .before .before .before .before .before .before .before .before .before .before .before .before .before .before .before .before .args .less)) _ _ (c .before .before .before .before .before .before .before .before .before .before .before .before .iterate .ensures) (h .eq)) (c .before .before .before .before .behind-sign .ensures .1 _ _ _ _ (h .stands)) (c .enum-told2 .given .1)
+  returns-2 c = pass-on (second (c .before .before .before .before .before .before .before .before .before .before .before .before .before .before .before .before .args .tokens .now) (expression (c .before .before .before .before .before .before .before .before .before .before .before .before .before .before .before .before .args .tokens .now) (c .before .before .before .before .before .before .before .before .before .before .before .before .before .before .before .before .args .less)) (statement (c .before .before .before .before .before .before .before .before .before .before .before .before .before .before .before .before .args .tokens .now) (c .before .before .before .before .before .before .before .before .before .before .before .before .before .before .before .before .args .less)) _ _ (c .before .before .before .before .before .before .before .before .before .before .before .before .iterate .ensures) (read-1 (c .before .before .before .before .before .before .before) .eq)) (c .before .before .before .before .behind-sign .ensures .1 _ _ _ _ (read-1 (c .before .before .before .before .before .before .before) .stands)) (c .enum-told2 .given .1)
 
   pub body-requires : lts.Need-body-requires cs (for-loop-at t) for-loop-reads.Post
   body-requires c κs =
-      let h = taken (c .before .before .before .before .before .before .before .before .before .before .before .before .before .expression .ensures) (c .before .before .before .before .before .before .before .before .before .r0 .given .1) in
-      let q = taken (c .before .before .before .before .before .before .behind-sign .ensures .1 _ _ _ _ (h .stands)) (c .before .before .r1 .given .1) in
-      (falls _ _ _ _ _ _ _ (c .before .before .before .before .before .before .before .before .before .before .before .before .before .before .before .before .before .before .pre .0) (le-trans (on-step _ _ (c .before .before .before .before .before .before .before .before .before .before .before .before .before .before .iterate .ensures)) (q .stands .on)) (lit< tt), (ready-same (c .before .before .before .before .before .before .before .before .before .before .before .before .before .before .before .before .before .before .pre .1) (c .before .before .before .before .before .before .behind-sign .kept .1 .0 ∙ c .before .before .before .before .before .before .before .before .before .before .before .before .before .expression .kept .1 .0) (q .stands .within), front-le (q .stands .front)))
+      (falls _ _ _ _ _ _ _ (c .before .before .before .before .before .before .before .before .before .before .before .before .before .before .before .before .before .before .pre .0) (le-trans (on-step _ _ (c .before .before .before .before .before .before .before .before .before .before .before .before .before .before .iterate .ensures)) (read-2 (c .before .before) .stands .on)) (lit< tt), (ready-same (c .before .before .before .before .before .before .before .before .before .before .before .before .before .before .before .before .before .before .pre .1) (c .before .before .before .before .before .before .behind-sign .kept .1 .0 ∙ c .before .before .before .before .before .before .before .before .before .before .before .before .before .expression .kept .1 .0) (read-2 (c .before .before) .stands .within), front-le (read-2 (c .before .before) .stands .front)))
 
   pub enum-known-r2 : lts.Need-enum-known-r2 cs (for-loop-at t) for-loop-reads.Post
   enum-known-r2 c = search needs
@@ -98,7 +105,7 @@ module _ (t : ℕ) where
   same-length-3 c = c .before .before .before .before .body .kept .1 .0 ∙ c .before .before .before .before .before .before .before .before .before .before .before .behind-sign .kept .1 .0 ∙ c .before .before .before .before .before .before .before .before .before .before .before .before .before .before .before .before .before .before .expression .kept .1 .0
 
   pub returns-3 : lts.Need-returns-3 cs (for-loop-at t) for-loop-reads.Post
-  returns-3 c = let h = taken (c .before .before .before .before .before .before .before .before .before .before .before .before .before .before .before .before .before .before .expression .ensures) (c .before .before .before .before .before .before .before .before .before .before .before .before .before .before .r0 .given .1) in let q = taken (c .before .before .before .before .before .before .before .before .before .before .before .behind-sign .ensures .1 _ _ _ _ (h .stands)) (c .before .before .before .before .before .before .before .r1 .given .1) in pass-on (third (c .before .before .before .before .before .before .before .before .before .before .before .before .before .before .before .before .before .before .before .before .before .before .before .args .tokens .now) (expression (c .before .before .before .before .before .before .before .before .before .before .before .before .before .before .before .before .before .before .before .before .before .before .before .args .tokens .now) (c .before .before .before .before .before .before .before .before .before .before .before .before .before .before .before .before .before .before .before .before .before .before .before .args .less)) (statement (c .before .before .before .before .before .before .before .before .before .before .before .before .before .before .before .before .before .before .before .before .before .before .before .args .tokens .now) (c .before .before .before .before .before .before .before .before .before .before .before .before .before .before .before .before .before .before .before .before .before .before .before .args .less)) _ _ (c .before .before .before .before .before .before .before .before .before .before .before .before .before .before .before .before .before .before .before .iterate .ensures) (h .eq) (q .eq)) (c .before .before .before .before .body .ensures .1 _ _ _ _ (q .stands)) (c .enum-told3 .given .1)
+  returns-3 c = pass-on (third (c .before .before .before .before .before .before .before .before .before .before .before .before .before .before .before .before .before .before .before .before .before .before .before .args .tokens .now) (expression (c .before .before .before .before .before .before .before .before .before .before .before .before .before .before .before .before .before .before .before .before .before .before .before .args .tokens .now) (c .before .before .before .before .before .before .before .before .before .before .before .before .before .before .before .before .before .before .before .before .before .before .before .args .less)) (statement (c .before .before .before .before .before .before .before .before .before .before .before .before .before .before .before .before .before .before .before .before .before .before .before .args .tokens .now) (c .before .before .before .before .before .before .before .before .before .before .before .before .before .before .before .before .before .before .before .before .before .before .before .args .less)) _ _ (c .before .before .before .before .before .before .before .before .before .before .before .before .before .before .before .before .before .before .before .iterate .ensures) (read-1 (c .before .before .before .before .before .before .before .before .before .before .before .before .before .before) .eq) (read-2 (c .before .before .before .before .before .before .before) .eq)) (c .before .before .before .before .body .ensures .1 _ _ _ _ (read-2 (c .before .before .before .before .before .before .before) .stands)) (c .enum-told3 .given .1)
 
   pub put-row-requires : lts.Need-put-row-requires cs (for-loop-at t) for-loop-reads.Post
   put-row-requires c κs = (fits-same _ _ _ (c .before .before .before .before .before .before .before .before .before .before .before .before .before .before .before .before .before .before .before .before .before .before .before .before .before .pre .1 .fits) (c .before .before .before .before .before .before .body .kept .1 .0 ∙ c .before .before .before .before .before .before .before .before .before .before .before .before .before .behind-sign .kept .1 .0 ∙ c .before .before .before .before .before .before .before .before .before .before .before .before .before .before .before .before .before .before .before .before .expression .kept .1 .0), small (c .before .before .before .before .before .before .before .before .before .before .before .before .before .before .before .before .before .before .before .before .before .before .before .before .before .pre .1))
@@ -108,8 +115,5 @@ module _ (t : ℕ) where
 
   pub returns-4 : lts.Need-returns-4 cs (for-loop-at t) for-loop-reads.Post
   returns-4 c =
-      let h = taken (c .before .before .before .before .before .before .before .before .before .before .before .before .before .before .before .before .before .before .before .before .before .before .before .expression .ensures) (c .before .before .before .before .before .before .before .before .before .before .before .before .before .before .before .before .before .before .before .r0 .given .1) in
-      let q = taken (c .before .before .before .before .before .before .before .before .before .before .before .before .before .before .before .before .behind-sign .ensures .1 _ _ _ _ (h .stands)) (c .before .before .before .before .before .before .before .before .before .before .before .before .r1 .given .1) in
-      let w = taken (c .before .before .before .before .before .before .before .before .before .body .ensures .1 _ _ _ _ (q .stands)) (c .before .before .before .before .before .r2 .given .1) in
-      sooner (on-step _ _ (c .before .before .before .before .before .before .before .before .before .before .before .before .before .before .before .before .before .before .before .before .before .before .before .before .iterate .ensures)) (by-eq (ended (c .before .before .before .before .before .before .before .before .before .before .before .before .before .before .before .before .before .before .before .before .before .before .before .before .before .before .before .before .args .tokens .now) (expression (c .before .before .before .before .before .before .before .before .before .before .before .before .before .before .before .before .before .before .before .before .before .before .before .before .before .before .before .before .args .tokens .now) (c .before .before .before .before .before .before .before .before .before .before .before .before .before .before .before .before .before .before .before .before .before .before .before .before .before .before .before .before .args .less)) (statement (c .before .before .before .before .before .before .before .before .before .before .before .before .before .before .before .before .before .before .before .before .before .before .before .before .before .before .before .before .args .tokens .now) (c .before .before .before .before .before .before .before .before .before .before .before .before .before .before .before .before .before .before .before .before .before .before .before .before .before .before .before .before .args .less)) _ _ (c .before .before .before .before .before .before .before .before .before .before .before .before .before .before .before .before .before .before .before .before .before .before .before .before .iterate .ensures) (h .eq) (q .eq) (w .eq))
-      (c .before .before .put-row .ensures (c .before .before .before .before .before .before .before .before .before .before .before .before .before .before .before .before .before .before .before .before .before .before .before .before .before .before .before .before .args .tokens .now) (w .stands .within) .1 _ [] _ _ _ _ (w .stands) (record { few = tt; root = of-node; refs = (h .head, q .head, w .head, refl) })))
+      sooner (on-step _ _ (c .before .before .before .before .before .before .before .before .before .before .before .before .before .before .before .before .before .before .before .before .before .before .before .before .iterate .ensures)) (by-eq (ended (c .before .before .before .before .before .before .before .before .before .before .before .before .before .before .before .before .before .before .before .before .before .before .before .before .before .before .before .before .args .tokens .now) (expression (c .before .before .before .before .before .before .before .before .before .before .before .before .before .before .before .before .before .before .before .before .before .before .before .before .before .before .before .before .args .tokens .now) (c .before .before .before .before .before .before .before .before .before .before .before .before .before .before .before .before .before .before .before .before .before .before .before .before .before .before .before .before .args .less)) (statement (c .before .before .before .before .before .before .before .before .before .before .before .before .before .before .before .before .before .before .before .before .before .before .before .before .before .before .before .before .args .tokens .now) (c .before .before .before .before .before .before .before .before .before .before .before .before .before .before .before .before .before .before .before .before .before .before .before .before .before .before .before .before .args .less)) _ _ (c .before .before .before .before .before .before .before .before .before .before .before .before .before .before .before .before .before .before .before .before .before .before .before .before .iterate .ensures) (read-1 (c .before .before .before .before .before .before .before .before .before .before .before .before .before .before .before .before .before .before .before) .eq) (read-2 (c .before .before .before .before .before .before .before .before .before .before .before .before) .eq) (read-3 (c .before .before .before .before .before) .eq))
+      (c .before .before .put-row .ensures (c .before .before .before .before .before .before .before .before .before .before .before .before .before .before .before .before .before .before .before .before .before .before .before .before .before .before .before .before .args .tokens .now) (read-3 (c .before .before .before .before .before) .stands .within) .1 _ [] _ _ _ _ (read-3 (c .before .before .before .before .before) .stands) (record { few = tt; root = of-node; refs = (read-1 (c .before .before .before .before .before .before .before .before .before .before .before .before .before .before .before .before .before .before .before) .head, read-2 (c .before .before .before .before .before .before .before .before .before .before .before .before) .head, read-3 (c .before .before .before .before .before) .head, refl) })))

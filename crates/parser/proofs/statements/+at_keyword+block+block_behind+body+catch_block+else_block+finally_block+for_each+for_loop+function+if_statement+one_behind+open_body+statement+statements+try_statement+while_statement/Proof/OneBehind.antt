@@ -3,7 +3,7 @@ use lib.Dec.{lit<}
 use Prim.Native.Nat.{ℕ}
 use native.Mathlib.Omega.{arith}
 use Rattle.grammar.specs.Statements.{statement}
-use Rattle.parser.proofs.Answers.{taken, bounded-tree, bounded-told}
+use Rattle.parser.proofs.Answers.{taken, TakenOf, bounded-tree, bounded-told}
 use Rattle.parser.proofs.Ends.{not-at-end, begun-told}
 use Rattle.parser.proofs.Parts.{ready-lent, in-part, back-read, back-refused, back-same, part-length}
 use Rattle.parser.proofs.Moves.{falls, le-refl}
@@ -16,6 +16,9 @@ use Rattle.parser.proofs.statements.+at_keyword+block+block_behind+body
 module _ (t : ℕ) where
   abbrev cs : lts.Claims
   cs = (statement-below t, statement-reads.Post)
+
+  read-1 : (c : lts.After-r cs (one-behind-at t) one-behind-reads.Post) → TakenOf (c .before .before .before .before .statement .ensures) (c .r .given .1)
+  read-1 c = taken (c .before .before .before .before .statement .ensures) (c .r .given .1)
 
   pub mul-i : lts.Need-mul-i cs (one-behind-at t) one-behind-reads.Post
   mul-i c = omega (arith, c .before .before .pre .1 .1, c .before .before .pre .1 .0 .fits)
@@ -51,17 +54,13 @@ module _ (t : ℕ) where
   returns c = (begun-told (c .enum-told .given .1), (bounded-told (c .enum-told .given .1), λ from slots zs left s. back-refused (in-part (statement (c .before .before .before .before .before .before .before .before .args .tokens .now) (c .before .before .before .before .before .before .before .before .args .allow) (c .before .before .before .before .before .before .before .before .args .c)) s (c .before .before .before .before .statement .ensures)) (c .enum-told .given .1)))
 
   pub add-t12 : lts.Need-add-t12 cs (one-behind-at t) one-behind-reads.Post
-  add-t12 c = let h = taken (c .before .before .before .before .before .statement .ensures) (c .before .r .given .1) in omega (arith, h .stands .front .fit, part-length (c .before .before .before .before .before .before .before .before .before .args .rows) (c .before .before .before .before .before .before .before .before .before .args .pool .now), c .before .before .before .before .before .before .before .before .before .pre .1 .1, c .before .before .before .before .before .before .before .before .before .pre .1 .0 .fits)
+  add-t12 c = omega (arith, read-1 (c .before) .stands .front .fit, part-length (c .before .before .before .before .before .before .before .before .before .args .rows) (c .before .before .before .before .before .before .before .before .before .args .pool .now), c .before .before .before .before .before .before .before .before .before .pre .1 .1, c .before .before .before .before .before .before .before .before .before .pre .1 .0 .fits)
 
   pub same-length-2 : lts.Need-same-length-2 cs (one-behind-at t) one-behind-reads.Post
   same-length-2 c = back-same (c .before .before .before .before .before .before .before .before .before .args .rows) (c .before .before .before .before .before .before .before .before .before .args .pool .now) (c .before .before .before .before .before .statement .last .1 .0) (c .before .before .before .before .before .statement .kept .1 .0)
 
   pub returns-2 : lts.Need-returns-2 cs (one-behind-at t) one-behind-reads.Post
   returns-2 c =
-      let h = taken (c .before .before .before .before .before .statement .ensures) (c .before .r .given .1) in (
-        record { begun = not-at-end _ _ _ _ (h .eq) },
-        (
-          bounded-tree (omega (arith, h .stands .front .fit, part-length (c .before .before .before .before .before .before .before .before .before .args .rows) (c .before .before .before .before .before .before .before .before .before .args .pool .now), c .before .before .before .before .before .before .before .before .before .pre .1 .1)) (h .stands .on) (h .stands .within),
-          λ from slots zs left s. back-read s (in-part (statement (c .before .before .before .before .before .before .before .before .before .args .tokens .now) (c .before .before .before .before .before .before .before .before .before .args .allow) (c .before .before .before .before .before .before .before .before .before .args .c)) s (c .before .before .before .before .before .statement .ensures)) (c .before .r .given .1),
-        ),
-      )
+      (record { begun = not-at-end _ _ _ _ (read-1 (c .before) .eq) },
+      (bounded-tree (omega (arith, read-1 (c .before) .stands .front .fit, part-length (c .before .before .before .before .before .before .before .before .before .args .rows) (c .before .before .before .before .before .before .before .before .before .args .pool .now), c .before .before .before .before .before .before .before .before .before .pre .1 .1)) (read-1 (c .before) .stands .on) (read-1 (c .before) .stands .within),
+      λ from slots zs left s. back-read s (in-part (statement (c .before .before .before .before .before .before .before .before .before .args .tokens .now) (c .before .before .before .before .before .before .before .before .before .args .allow) (c .before .before .before .before .before .before .before .before .before .args .c)) s (c .before .before .before .before .before .statement .ensures)) (c .before .r .given .1)))

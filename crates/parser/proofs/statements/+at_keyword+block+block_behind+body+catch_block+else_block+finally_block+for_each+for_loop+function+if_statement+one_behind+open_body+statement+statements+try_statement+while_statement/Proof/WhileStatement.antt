@@ -13,7 +13,7 @@ use Rattle.grammar.specs.Expressions.{Rec, expression}
 use Rattle.grammar.specs.Statements.{statement, block, while}
 use Rattle.parser.specs.Meets.{of-node}
 use Rattle.parser.specs.Contracts.{open-body}
-use Rattle.parser.proofs.Answers.{taken, by-eq, refuses, need-met, need-failed, sooner, Starts, starts-at, starts-after, goes, pass-on}
+use Rattle.parser.proofs.Answers.{taken, TakenOf, by-eq, refuses, need-met, need-failed, sooner, Starts, starts-at, starts-after, goes, pass-on}
 use Rattle.parser.proofs.Bodies.{open-then}
 use Rattle.parser.proofs.Moves.{falls, fits-same, front-le, le-trans, on-step, ready-same, ready-step, small}
 use borrow.Author.Needs.{needs}
@@ -46,6 +46,12 @@ module _ (t : ℕ) where
   abbrev cs : lts.Claims
   cs = (next-symbol-is-reads.Asked, next-symbol-is-reads.Learnt, iterate-reads.Asked, iterate-reads.Learnt, expression-reads.Asked, expression-reads.Learnt, open-body-below t, open-body-reads.Post, put-row-reads.Asked, put-row-reads.Learnt)
 
+  read-1 : (c : lts.After-r cs (while-statement-at t) while-statement-reads.Post) → TakenOf (c .before .before .before .before .expression .ensures) (c .r .given .1)
+  read-1 c = taken (c .before .before .before .before .expression .ensures) (c .r .given .1)
+
+  read-2 : (c : lts.After-q cs (while-statement-at t) while-statement-reads.Post) → TakenOf (c .before .before .before .before .open-body .ensures .1 _ _ _ _ (read-1 (c .before .before .before .before .before .before .before) .stands)) (c .q .given .1)
+  read-2 c = taken (c .before .before .before .before .open-body .ensures .1 _ _ _ _ (read-1 (c .before .before .before .before .before .before .before) .stands)) (c .q .given .1)
+
   pub next-symbol-is-requires : lts.Need-next-symbol-is-requires cs (while-statement-at t) while-statement-reads.Post
   next-symbol-is-requires c κs = search needs
 
@@ -76,8 +82,7 @@ module _ (t : ℕ) where
 
   pub open-body-requires : lts.Need-open-body-requires cs (while-statement-at t) while-statement-reads.Post
   open-body-requires c κs =
-      let h = taken (c .before .before .before .before .before .before .expression .ensures) (c .before .before .r .given .1) in
-      (falls _ _ _ _ _ _ _ (c .before .before .before .before .before .before .before .before .before .before .before .before .before .before .pre .0) (le-trans (on-step _ _ (c .before .before .before .before .before .before .before .before .before .iterate .ensures)) (le-trans (on-step _ _ (c .before .before .before .before .before .before .before .before .iterate2 .ensures)) (h .stands .on))) (lit< tt), (ready-same (c .before .before .before .before .before .before .before .before .before .before .before .before .before .before .pre .1) (c .before .before .before .before .before .before .expression .kept .1 .0) (h .stands .within), front-le (h .stands .front)))
+      (falls _ _ _ _ _ _ _ (c .before .before .before .before .before .before .before .before .before .before .before .before .before .before .pre .0) (le-trans (on-step _ _ (c .before .before .before .before .before .before .before .before .before .iterate .ensures)) (le-trans (on-step _ _ (c .before .before .before .before .before .before .before .before .iterate2 .ensures)) (read-1 (c .before .before) .stands .on))) (lit< tt), (ready-same (c .before .before .before .before .before .before .before .before .before .before .before .before .before .before .pre .1) (c .before .before .before .before .before .before .expression .kept .1 .0) (read-1 (c .before .before) .stands .within), front-le (read-1 (c .before .before) .stands .front)))
 
   pub enum-known-q : lts.Need-enum-known-q cs (while-statement-at t) while-statement-reads.Post
   enum-known-q c = search needs
@@ -89,7 +94,7 @@ module _ (t : ℕ) where
   same-length-2 c = c .before .before .before .before .open-body .kept .1 .0 ∙ c .before .before .before .before .before .before .before .before .before .before .before .expression .kept .1 .0
 
   pub returns-3 : lts.Need-returns-3 cs (while-statement-at t) while-statement-reads.Post
-  returns-3 c = let h = taken (c .before .before .before .before .before .before .before .before .before .before .before .expression .ensures) (c .before .before .before .before .before .before .before .r .given .1) in pass-on (second (c .before .before .before .before .before .before .before .before .before .before .before .before .before .before .before .before .before .before .before .args .tokens .now) (expression (c .before .before .before .before .before .before .before .before .before .before .before .before .before .before .before .before .before .before .before .args .tokens .now) (c .before .before .before .before .before .before .before .before .before .before .before .before .before .before .before .before .before .before .before .args .less)) (statement (c .before .before .before .before .before .before .before .before .before .before .before .before .before .before .before .before .before .before .before .args .tokens .now) (c .before .before .before .before .before .before .before .before .before .before .before .before .before .before .before .before .before .before .before .args .less)) _ _ (sym (c .before .before .before .before .before .before .before .before .before .before .before .before .before .before .before .before .next-symbol-is .ensures) ∙ not-false _ (c .before .before .before .before .before .before .before .before .before .before .before .before .before .before .before .if1 .left)) (c .before .before .before .before .before .before .before .before .before .before .before .before .before .before .iterate .ensures) (c .before .before .before .before .before .before .before .before .before .before .before .before .before .iterate2 .ensures) (h .eq)) (c .before .before .before .before .open-body .ensures .1 _ _ _ _ (h .stands)) (c .enum-told2 .given .1)
+  returns-3 c = pass-on (second (c .before .before .before .before .before .before .before .before .before .before .before .before .before .before .before .before .before .before .before .args .tokens .now) (expression (c .before .before .before .before .before .before .before .before .before .before .before .before .before .before .before .before .before .before .before .args .tokens .now) (c .before .before .before .before .before .before .before .before .before .before .before .before .before .before .before .before .before .before .before .args .less)) (statement (c .before .before .before .before .before .before .before .before .before .before .before .before .before .before .before .before .before .before .before .args .tokens .now) (c .before .before .before .before .before .before .before .before .before .before .before .before .before .before .before .before .before .before .before .args .less)) _ _ (sym (c .before .before .before .before .before .before .before .before .before .before .before .before .before .before .before .before .next-symbol-is .ensures) ∙ not-false _ (c .before .before .before .before .before .before .before .before .before .before .before .before .before .before .before .if1 .left)) (c .before .before .before .before .before .before .before .before .before .before .before .before .before .before .iterate .ensures) (c .before .before .before .before .before .before .before .before .before .before .before .before .before .iterate2 .ensures) (read-1 (c .before .before .before .before .before .before .before) .eq)) (c .before .before .before .before .open-body .ensures .1 _ _ _ _ (read-1 (c .before .before .before .before .before .before .before) .stands)) (c .enum-told2 .given .1)
 
   pub put-row-requires : lts.Need-put-row-requires cs (while-statement-at t) while-statement-reads.Post
   put-row-requires c κs = (fits-same _ _ _ (c .before .before .before .before .before .before .before .before .before .before .before .before .before .before .before .before .before .before .before .before .before .pre .1 .fits) (c .before .before .before .before .before .before .open-body .kept .1 .0 ∙ c .before .before .before .before .before .before .before .before .before .before .before .before .before .expression .kept .1 .0), small (c .before .before .before .before .before .before .before .before .before .before .before .before .before .before .before .before .before .before .before .before .before .pre .1))
@@ -99,7 +104,5 @@ module _ (t : ℕ) where
 
   pub returns-4 : lts.Need-returns-4 cs (while-statement-at t) while-statement-reads.Post
   returns-4 c =
-      let h = taken (c .before .before .before .before .before .before .before .before .before .before .before .before .before .before .before .before .expression .ensures) (c .before .before .before .before .before .before .before .before .before .before .before .before .r .given .1) in
-      let q = taken (c .before .before .before .before .before .before .before .before .before .open-body .ensures .1 _ _ _ _ (h .stands)) (c .before .before .before .before .before .q .given .1) in
-      sooner (le-trans (on-step _ _ (c .before .before .before .before .before .before .before .before .before .before .before .before .before .before .before .before .before .before .before .iterate .ensures)) (on-step _ _ (c .before .before .before .before .before .before .before .before .before .before .before .before .before .before .before .before .before .before .iterate2 .ensures))) (by-eq (ended (c .before .before .before .before .before .before .before .before .before .before .before .before .before .before .before .before .before .before .before .before .before .before .before .before .args .tokens .now) (expression (c .before .before .before .before .before .before .before .before .before .before .before .before .before .before .before .before .before .before .before .before .before .before .before .before .args .tokens .now) (c .before .before .before .before .before .before .before .before .before .before .before .before .before .before .before .before .before .before .before .before .before .before .before .before .args .less)) (statement (c .before .before .before .before .before .before .before .before .before .before .before .before .before .before .before .before .before .before .before .before .before .before .before .before .args .tokens .now) (c .before .before .before .before .before .before .before .before .before .before .before .before .before .before .before .before .before .before .before .before .before .before .before .before .args .less)) _ _ (sym (c .before .before .before .before .before .before .before .before .before .before .before .before .before .before .before .before .before .before .before .before .before .next-symbol-is .ensures) ∙ not-false _ (c .before .before .before .before .before .before .before .before .before .before .before .before .before .before .before .before .before .before .before .before .if1 .left)) (c .before .before .before .before .before .before .before .before .before .before .before .before .before .before .before .before .before .before .before .iterate .ensures) (c .before .before .before .before .before .before .before .before .before .before .before .before .before .before .before .before .before .before .iterate2 .ensures) (h .eq) (q .eq))
-      (c .before .before .put-row .ensures (c .before .before .before .before .before .before .before .before .before .before .before .before .before .before .before .before .before .before .before .before .before .before .before .before .args .tokens .now) (q .stands .within) .1 _ [] _ _ _ _ (q .stands) (record { few = tt; root = of-node; refs = (h .head, q .head, refl, refl) })))
+      sooner (le-trans (on-step _ _ (c .before .before .before .before .before .before .before .before .before .before .before .before .before .before .before .before .before .before .before .iterate .ensures)) (on-step _ _ (c .before .before .before .before .before .before .before .before .before .before .before .before .before .before .before .before .before .before .iterate2 .ensures))) (by-eq (ended (c .before .before .before .before .before .before .before .before .before .before .before .before .before .before .before .before .before .before .before .before .before .before .before .before .args .tokens .now) (expression (c .before .before .before .before .before .before .before .before .before .before .before .before .before .before .before .before .before .before .before .before .before .before .before .before .args .tokens .now) (c .before .before .before .before .before .before .before .before .before .before .before .before .before .before .before .before .before .before .before .before .before .before .before .before .args .less)) (statement (c .before .before .before .before .before .before .before .before .before .before .before .before .before .before .before .before .before .before .before .before .before .before .before .before .args .tokens .now) (c .before .before .before .before .before .before .before .before .before .before .before .before .before .before .before .before .before .before .before .before .before .before .before .before .args .less)) _ _ (sym (c .before .before .before .before .before .before .before .before .before .before .before .before .before .before .before .before .before .before .before .before .before .next-symbol-is .ensures) ∙ not-false _ (c .before .before .before .before .before .before .before .before .before .before .before .before .before .before .before .before .before .before .before .before .if1 .left)) (c .before .before .before .before .before .before .before .before .before .before .before .before .before .before .before .before .before .before .before .iterate .ensures) (c .before .before .before .before .before .before .before .before .before .before .before .before .before .before .before .before .before .before .iterate2 .ensures) (read-1 (c .before .before .before .before .before .before .before .before .before .before .before .before) .eq) (read-2 (c .before .before .before .before .before) .eq))
+      (c .before .before .put-row .ensures (c .before .before .before .before .before .before .before .before .before .before .before .before .before .before .before .before .before .before .before .before .before .before .before .before .args .tokens .now) (read-2 (c .before .before .before .before .before) .stands .within) .1 _ [] _ _ _ _ (read-2 (c .before .before .before .before .before) .stands) (record { few = tt; root = of-node; refs = (read-1 (c .before .before .before .before .before .before .before .before .before .before .before .before) .head, read-2 (c .before .before .before .before .before) .head, refl, refl) })))
