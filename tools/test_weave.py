@@ -219,7 +219,8 @@ class Goals(Case):
         self.assertEqual([weave.local(k) for k in kinds], ["Inv-loop-2", "μ-loop", "same-length-2"])
 
     def test_way_back(self):
-        way = [("c", ["put-row"]), ("c .before", ["slice-known"]), ("c .before .before", ["κs", "args", "pre"])]
+        way = [("c", "After-put-row", ["put-row"]), ("c .before", "After-slice-known", ["slice-known"])]
+        way += [("c .before .before", "Start", ["κs", "args", "pre"])]
         self.assertEqual(list(weave.back(PLACES, "After-put-row")), way)
         self.refused("no record of the place After-leaf", list, weave.back(PLACES, "After-leaf"))
 
@@ -285,7 +286,7 @@ class Paths(Case):
         self.assertEqual(weave.paths("c@x c@x2", places, "B", ""), "c .x c .x2")
 
     def test_facts_are_applied_to_their_places(self):
-        facts = self.answered("----\nfact near at put-row : A = a\nfact far at pre : A = a\n")[1]
+        facts = self.answered("----\nfact near at put-row : A = a\nfact far at Start : A = a\n")[1]
         text = weave.paths("c@near .x (c@far) c@pre", PLACES, "After-put-row", "", facts)
         self.assertEqual(text, "near c .x (far (c .before .before)) c .before .before .pre")
         self.refused("no near on the way", weave.paths, "c@near", PLACES, "After-slice-known", "", facts)
@@ -298,17 +299,24 @@ class Paths(Case):
 
 class Clauses(Case):
     def test_an_answer_that_is_given(self):
-        self.assertEqual(weave.clause("returns", {"returns": ("unfolding f", "returns c = a")})[1], "returns c = a")
+        self.assertEqual(weave.clause("returns", {"returns": ("unfolding f", "returns c = a")}, "Start")[1], "returns c = a")
 
     def test_the_default(self):
         given = {"other": ("", "other c = a")}
-        self.assertEqual(weave.clause("returns-2", given), ("", "returns-2 c = search needs"))
+        self.assertEqual(weave.clause("returns-2", given, "Start"), ("", "returns-2 c = search needs"))
         for name in "next-requires", "next-requires-12":
-            self.assertEqual(weave.clause(name, given), ("", f"{name} c κs = search needs"))
-        self.assertEqual(weave.clause("requires-x", given), ("", "requires-x c = search needs"))
+            self.assertEqual(weave.clause(name, given, "Start"), ("", f"{name} c κs = search needs"))
+        self.assertEqual(weave.clause("requires-x", given, "Start"), ("", "requires-x c = search needs"))
+
+    def test_what_a_match_tells(self):
+        given, place = {"other": ("", "other c = a")}, "At-match2-keys14"
+        self.assertEqual(weave.clause("enum-told-3", given, place), ("", "enum-told-3 c = c .match2 .keys14"))
+        self.assertEqual(weave.clause("enum-told", given, "At-match-keys1"), ("", "enum-told c = c .match .keys1"))
+        self.assertEqual(weave.clause("enum-told", given, "After-r"), ("", "enum-told c = search needs"))
+        self.assertEqual(weave.clause("returns", given, place), ("", "returns c = search needs"))
 
     def test_holes_where_nothing_is_answered(self):
-        self.assertEqual(weave.clause("next-requires", {}), ("", "next-requires c κs = ?"))
+        self.assertEqual(weave.clause("next-requires", {}, "Start"), ("", "next-requires c κs = ?"))
 
     def test_loops(self):
         self.assertEqual(weave.loop_clause("InvT-loop", LOOP_LTS, {}), ("", "Inv-loop a0 a1 a2 = ?"))

@@ -19,7 +19,7 @@ check-requires : tie.Need-check-requires
 check-requires c κs = search needs
 
 enum-known-s : tie.Need-enum-known-s
-enum-known-s c = search needs
+enum-known-s c = c .match .keys1
 
 room-requires : tie.Need-room-requires
 room-requires c κs = search needs
@@ -40,7 +40,7 @@ finish-requires : tie.Need-finish-requires
 finish-requires c κs = search needs
 
 enum-known-s-2 : tie.Need-enum-known-s-2
-enum-known-s-2 c = search needs
+enum-known-s-2 c = c .match .keys2
 
 same-length : tie.Need-same-length
 same-length c = c .before .before .finish .kept .0 ∙ same-len-mid 0 (c .before .before .before .before .before .before .before .before .room .result - 0) (c .before .before .before .before .before .before .before .before .before .before .before .before .before .before .before .clear .last .0) (c .before .before .before .before .before .before .read .last .1 .0) (c .before .before .before .before .before .before .read .kept .1 .0) ∙ c .before .before .before .before .before .before .before .before .before .before .before .before .before .before .before .clear .kept .0

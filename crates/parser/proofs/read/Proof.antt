@@ -7,19 +7,19 @@ use Rattle.parser.proofs.read.Statement.{statement}
 use Rattle.parser.proofs.read.Tie as tie
 
 enum-told : tie.Need-enum-told
-enum-told c = search needs
+enum-told c = c .match .keys1
 
 expression-requires : tie.Need-expression-requires
 expression-requires c κs = c .before .before .before .before .before .pre
 
 enum-told-2 : tie.Need-enum-told-2
-enum-told-2 c = search needs
+enum-told-2 c = c .match .keys2
 
 statement-requires : tie.Need-statement-requires
 statement-requires c κs = c .before .before .before .before .before .pre
 
 enum-told-3 : tie.Need-enum-told-3
-enum-told-3 c = search needs
+enum-told-3 c = c .match .keys3
 
 script-requires : tie.Need-script-requires
 script-requires c κs = c .before .before .before .before .before .pre

@@ -7,7 +7,6 @@ use Rattle.parser.specs.Entries.{script}
 use Rattle.parser.specs.Meets.{of-node}
 use Rattle.parser.proofs.Answers.{no-list, taken, TakenOf, pass, by-eq, then-read}
 use Rattle.parser.proofs.Moves.{fits-same}
-use borrow.Author.Needs.{needs}
 use Rattle.parser.proofs.script.Statement.{statement}
 use Rattle.parser.proofs.script.Tie as tie
 
@@ -18,10 +17,10 @@ statements-requires : tie.Need-statements-requires
 statements-requires c κs = (c .before .before .before .pre, omega arith)
 
 enum-known-r : tie.Need-enum-known-r
-enum-known-r c = search needs
+enum-known-r c = c .match .keys1
 
 enum-told : tie.Need-enum-told
-enum-told c = search needs
+enum-told c = c .match .keys2
 
 same-length : tie.Need-same-length
 same-length c = c .before .before .before .before .statements .kept .1 .0

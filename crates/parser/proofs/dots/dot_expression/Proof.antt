@@ -22,10 +22,10 @@ leaf-requires : tie.Need-leaf-requires
 leaf-requires c κs = (c .before .before .before .pre .0 .fits, small (c .before .before .before .pre .0))
 
 enum-known-r : tie.Need-enum-known-r
-enum-known-r c = search needs
+enum-known-r c = c .match .keys1
 
 enum-told : tie.Need-enum-told
-enum-told c = search needs
+enum-told c = c .match .keys2
 
 same-length : tie.Need-same-length
 same-length c = search needs
@@ -67,10 +67,10 @@ dots-requires : tie.Need-dots-requires
 dots-requires c κs = ready-lent {ys = c .before .before .before .before .before .before .before .before .leaf .last .0} (c .before .before .before .before .r .given .0 .0) (ready-same (c .before .before .before .before .before .before .before .before .before .before .before .before .pre .0) (c .before .before .before .before .before .before .before .before .leaf .kept .0) (read-1 (c .before .before .before .before) .stands .within)) (omega (arith, read-1 (c .before .before .before .before) .stands .front .fit, c .before .before .before .before .before .before .before .before .leaf .kept .0))
 
 enum-known-q : tie.Need-enum-known-q
-enum-known-q c = search needs
+enum-known-q c = c .match2 .keys1
 
 enum-told-2 : tie.Need-enum-told-2
-enum-told-2 c = search needs
+enum-told-2 c = c .match2 .keys2
 
 same-length-3 : tie.Need-same-length-3
 same-length-3 c = back-same (c .before .before .before .before .before .before .before .before .before .r .given .0 .0) (c .before .before .before .before .before .before .before .before .before .before .before .before .before .leaf .last .0) (c .before .before .before .before .dots .last .1 .0) (c .before .before .before .before .dots .kept .1 .0) ∙ c .before .before .before .before .before .before .before .before .before .before .before .before .before .leaf .kept .0

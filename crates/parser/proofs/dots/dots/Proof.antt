@@ -55,10 +55,10 @@ put-row-requires : tie.Need-put-row-requires Inv-loop μ-loop
 put-row-requires c κs = (omega (arith, c .before .before .before .before .before .before .before .before .before .before .pre .fits, c .before .before .before .before .before .before .before .loop .inv .same), omega (arith, within-step _ _ (c .before .before .before .iterate2 .ensures) (within-step _ _ (c .before .before .before .before .iterate .ensures) (c .before .before .before .before .before .before .before .loop .inv .state .stands .within)), c .before .before .before .before .before .before .before .before .before .before .pre .sound .few))
 
 enum-known-r : tie.Need-enum-known-r Inv-loop μ-loop
-enum-known-r c = search needs
+enum-known-r c = c .match .keys1
 
 enum-told : tie.Need-enum-told Inv-loop μ-loop
-enum-told c = search needs
+enum-told c = c .match .keys2
 
 same-length-2 : tie.Need-same-length-2 Inv-loop μ-loop
 same-length-2 c = c .before .before .before .before .put-row .kept .0 ∙ c .before .before .before .before .before .before .before .before .before .before .before .before .loop .inv .same

@@ -1,14 +1,13 @@
 -- `passed` meets its contract: the same answer.
 use mathlib.Core.Path.{sym}
-use borrow.Author.Needs.{needs}
 use Rattle.parser.proofs.part.passed.Statement.{statement}
 use Rattle.parser.proofs.part.passed.Tie as tie
 
 enum-known-r : tie.Need-enum-known-r
-enum-known-r c = search needs
+enum-known-r c = c .match .keys1
 
 enum-known-r-2 : tie.Need-enum-known-r-2
-enum-known-r-2 c = search needs
+enum-known-r-2 c = c .match .keys2
 
 returns : tie.Need-returns
 returns c = sym (c .before .r .given .1)

@@ -16,7 +16,7 @@ build-requires : tie.Need-build-requires
 build-requires c κs = search needs
 
 enum-known-b : tie.Need-enum-known-b
-enum-known-b c = search needs
+enum-known-b c = c .match .keys1
 
 add-t21 : tie.Need-add-t21
 add-t21 c = let b = when-built (c .before .before .before .before .before .build .ensures) (c .before .b .given .1) in omega (arith, b .count, b .fit, c .before .before .before .before .before .before .before .before .pre .0)
@@ -25,7 +25,7 @@ cast-t22 : tie.Need-cast-t22
 cast-t22 c = let b = when-built (c .before .before .before .before .before .build .ensures) (c .before .b .given .1) in omega (arith, b .count, b .fit, c .before .before .before .before .before .before .before .before .pre .0)
 
 enum-known-b-2 : tie.Need-enum-known-b-2
-enum-known-b-2 c = search needs
+enum-known-b-2 c = c .match .keys2
 
 same-length : tie.Need-same-length
 same-length c = search needs

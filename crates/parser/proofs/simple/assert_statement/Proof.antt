@@ -25,10 +25,10 @@ expression-requires : tie.Need-expression-requires
 expression-requires c κs = ready-step _ _ (c .iterate .ensures) (c .before .before .before .before .pre)
 
 enum-known-r : tie.Need-enum-known-r
-enum-known-r c = search needs
+enum-known-r c = c .match .keys1
 
 enum-told : tie.Need-enum-told
-enum-told c = search needs
+enum-told c = c .match .keys2
 
 same-length : tie.Need-same-length
 same-length c = c .before .before .before .before .expression .kept .1 .0
@@ -54,10 +54,10 @@ behind-sign-requires : tie.Need-behind-sign-requires
 behind-sign-requires c κs = (ready-same (c .before .before .before .before .before .before .before .before .before .before .before .before .before .pre) (c .before .before .before .before .before .before .before .before .expression .kept .1 .0) (read-1 (c .before .before .before .before) .stands .within), front-le (read-1 (c .before .before .before .before) .stands .front))
 
 enum-known-q : tie.Need-enum-known-q
-enum-known-q c = search needs
+enum-known-q c = c .match2 .keys1
 
 enum-told-2 : tie.Need-enum-told-2
-enum-told-2 c = search needs
+enum-told-2 c = c .match2 .keys2
 
 same-length-3 : tie.Need-same-length-3
 same-length-3 c = c .before .before .before .before .behind-sign .kept .1 .0 ∙ c .before .before .before .before .before .before .before .before .before .before .before .before .before .expression .kept .1 .0

@@ -7,7 +7,6 @@ use Rattle.parser.specs.Contracts.{around}
 use Rattle.parser.proofs.Moves.{falls, fits-same, le-refl}
 use Rattle.parser.specs.Meets.{of-node}
 use Rattle.parser.proofs.Answers.{taken, TakenOf, pass, by-eq, then-read}
-use borrow.Author.Needs.{needs}
 use Rattle.parser.proofs.expressions.around.Reads as around-reads
 use Rattle.parser.proofs.expressions.expression.Reads as expression-reads
 use Rattle.parser.proofs.part.put_row.Reads as put-row-reads
@@ -25,10 +24,10 @@ module _ (t : ℕ) where
   expression-requires c κs = (falls _ _ _ _ _ _ _ (c .before .before .before .pre .0) (le-refl _) (lit< tt), c .before .before .before .pre .1 .0)
 
   pub enum-known-r : lts.Need-enum-known-r cs (around-at t) around-reads.Post
-  enum-known-r c = search needs
+  enum-known-r c = c .match .keys1
 
   pub enum-told : lts.Need-enum-told cs (around-at t) around-reads.Post
-  enum-told c = search needs
+  enum-told c = c .match .keys2
 
   pub same-length : lts.Need-same-length cs (around-at t) around-reads.Post
   same-length c = c .before .before .before .before .expression .kept .1 .0

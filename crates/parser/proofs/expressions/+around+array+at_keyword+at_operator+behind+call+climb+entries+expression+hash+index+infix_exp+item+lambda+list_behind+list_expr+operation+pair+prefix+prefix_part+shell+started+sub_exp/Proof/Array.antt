@@ -48,10 +48,10 @@ module _ (t : ℕ) where
   list-expr-requires c κs = (falls _ _ _ _ _ _ _ (c .before .before .before .before .before .pre .0) (le-refl _) (lit< tt), c .before .before .before .before .before .pre .1)
 
   pub enum-known-r : lts.Need-enum-known-r cs (array-at t) array-reads.Post
-  enum-known-r c = search needs
+  enum-known-r c = c .match .keys1
 
   pub enum-told : lts.Need-enum-told cs (array-at t) array-reads.Post
-  enum-told c = search needs
+  enum-told c = c .match .keys2
 
   pub same-length-2 : lts.Need-same-length-2 cs (array-at t) array-reads.Post
   same-length-2 c = c .before .before .before .before .list-expr .kept .1 .0

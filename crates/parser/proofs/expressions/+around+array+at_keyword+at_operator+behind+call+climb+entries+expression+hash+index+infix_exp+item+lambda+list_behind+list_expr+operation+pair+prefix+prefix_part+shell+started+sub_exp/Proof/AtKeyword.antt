@@ -1,13 +1,14 @@
 -- `at_keyword` meets its contract: each keyword has its arm in the definition, and no other begins an expression.
+use lib.Dec.{lit<}
 use mathlib.Core.Path.{refl}
 use mathlib.Core.List.{[], _∷_}
-use native.Mathlib.Omega.{arith}
 use Rattle.grammar.specs.Words.{class}
 use Rattle.grammar.specs.Parsed.{match, choose}
 use Rattle.grammar.specs.Expressions.{prefix-part}
 use Rattle.tokens.proofs.Arms.{keyword-arm}
 use Rattle.tokens.proofs.Tests.{but}
 use Rattle.parser.proofs.Matches.{no-start, unstarted}
+use Rattle.parser.proofs.Moves.{falls, le-refl}
 use borrow.Author.Needs.{needs}
 use Prim.Native.Nat.{ℕ}
 use Rattle.parser.proofs.expressions.at_keyword.Reads as at-keyword-reads
@@ -22,40 +23,40 @@ module _ (t : ℕ) where
   cs = (leaf-reads.Asked, leaf-reads.Learnt, lambda-below t, lambda-reads.Post, started-below t, started-reads.Post)
 
   pub enum-told : lts.Need-enum-told cs (at-keyword-at t) at-keyword-reads.Post
-  enum-told c = search needs
+  enum-told c = c .match .keys1
 
   pub leaf-requires : lts.Need-leaf-requires cs (at-keyword-at t) at-keyword-reads.Post
   leaf-requires c κs = search needs
 
   pub enum-told-2 : lts.Need-enum-told-2 cs (at-keyword-at t) at-keyword-reads.Post
-  enum-told-2 c = search needs
+  enum-told-2 c = c .match .keys2
 
   pub leaf-requires-2 : lts.Need-leaf-requires-2 cs (at-keyword-at t) at-keyword-reads.Post
   leaf-requires-2 c κs = search needs
 
   pub enum-told-3 : lts.Need-enum-told-3 cs (at-keyword-at t) at-keyword-reads.Post
-  enum-told-3 c = search needs
+  enum-told-3 c = c .match .keys3
 
   pub lambda-requires : lts.Need-lambda-requires cs (at-keyword-at t) at-keyword-reads.Post
-  lambda-requires c κs = (omega (arith, c .before .before .before .before .before .pre .0), c .before .before .before .before .before .pre .1 .0)
+  lambda-requires c κs = (falls _ _ _ _ _ _ _ (c .before .before .before .before .before .pre .0) (le-refl _) (lit< tt), c .before .before .before .before .before .pre .1 .0)
 
   pub enum-told-4 : lts.Need-enum-told-4 cs (at-keyword-at t) at-keyword-reads.Post
-  enum-told-4 c = search needs
+  enum-told-4 c = c .match .keys4
 
   pub leaf-requires-3 : lts.Need-leaf-requires-3 cs (at-keyword-at t) at-keyword-reads.Post
   leaf-requires-3 c κs = search needs
 
   pub enum-told-5 : lts.Need-enum-told-5 cs (at-keyword-at t) at-keyword-reads.Post
-  enum-told-5 c = search needs
+  enum-told-5 c = c .match .keys5
 
   pub started-requires : lts.Need-started-requires cs (at-keyword-at t) at-keyword-reads.Post
-  started-requires c κs = (omega (arith, c .before .before .before .before .before .pre .0), c .before .before .before .before .before .pre .1 .0)
+  started-requires c κs = (falls _ _ _ _ _ _ _ (c .before .before .before .before .before .pre .0) (le-refl _) (lit< tt), c .before .before .before .before .before .pre .1 .0)
 
   pub enum-told-6 : lts.Need-enum-told-6 cs (at-keyword-at t) at-keyword-reads.Post
-  enum-told-6 c = search needs
+  enum-told-6 c = c .match .keys6
 
   pub started-requires-2 : lts.Need-started-requires-2 cs (at-keyword-at t) at-keyword-reads.Post
-  started-requires-2 c κs = (omega (arith, c .before .before .before .before .before .pre .0), c .before .before .before .before .before .pre .1 .0)
+  started-requires-2 c κs = (falls _ _ _ _ _ _ _ (c .before .before .before .before .before .pre .0) (le-refl _) (lit< tt), c .before .before .before .before .before .pre .1 .0)
 
   pub same-length : lts.Need-same-length cs (at-keyword-at t) at-keyword-reads.Post
   same-length c = search needs

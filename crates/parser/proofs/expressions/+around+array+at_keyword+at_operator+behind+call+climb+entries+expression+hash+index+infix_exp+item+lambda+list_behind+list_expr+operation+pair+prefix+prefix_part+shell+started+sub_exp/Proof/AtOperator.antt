@@ -1,13 +1,14 @@
 -- `at_operator` meets its contract: each operator has its arm in the definition, and no other begins an expression.
+use lib.Dec.{lit<}
 use mathlib.Core.Path.{refl}
 use mathlib.Core.List.{[], _∷_}
-use native.Mathlib.Omega.{arith}
 use Rattle.grammar.specs.Words.{class}
 use Rattle.grammar.specs.Parsed.{match, choose}
 use Rattle.grammar.specs.Expressions.{prefix-part}
 use Rattle.tokens.proofs.Arms.{operator-arm}
 use Rattle.tokens.proofs.Tests.{but}
 use Rattle.parser.proofs.Matches.{no-start, unstarted}
+use Rattle.parser.proofs.Moves.{falls, le-refl}
 use borrow.Author.Needs.{needs}
 use Prim.Native.Nat.{ℕ}
 use Rattle.parser.proofs.expressions.array.Reads as array-reads
@@ -24,52 +25,52 @@ module _ (t : ℕ) where
   cs = (array-below t, array-reads.Post, hash-below t, hash-reads.Post, prefix-below t, prefix-reads.Post, sub-exp-below t, sub-exp-reads.Post, shell-below t, shell-reads.Post)
 
   pub enum-told : lts.Need-enum-told cs (at-operator-at t) at-operator-reads.Post
-  enum-told c = search needs
+  enum-told c = c .match .keys1
 
   pub array-requires : lts.Need-array-requires cs (at-operator-at t) at-operator-reads.Post
-  array-requires c κs = (omega (arith, c .before .before .before .before .before .pre .0), c .before .before .before .before .before .pre .1 .0)
+  array-requires c κs = (falls _ _ _ _ _ _ _ (c .before .before .before .before .before .pre .0) (le-refl _) (lit< tt), c .before .before .before .before .before .pre .1 .0)
 
   pub enum-told-2 : lts.Need-enum-told-2 cs (at-operator-at t) at-operator-reads.Post
-  enum-told-2 c = search needs
+  enum-told-2 c = c .match .keys2
 
   pub hash-requires : lts.Need-hash-requires cs (at-operator-at t) at-operator-reads.Post
-  hash-requires c κs = (omega (arith, c .before .before .before .before .before .pre .0), c .before .before .before .before .before .pre .1 .0)
+  hash-requires c κs = (falls _ _ _ _ _ _ _ (c .before .before .before .before .before .pre .0) (le-refl _) (lit< tt), c .before .before .before .before .before .pre .1 .0)
 
   pub enum-told-3 : lts.Need-enum-told-3 cs (at-operator-at t) at-operator-reads.Post
-  enum-told-3 c = search needs
+  enum-told-3 c = c .match .keys3
 
   pub prefix-requires : lts.Need-prefix-requires cs (at-operator-at t) at-operator-reads.Post
-  prefix-requires c κs = (omega (arith, c .before .before .before .before .before .pre .0), c .before .before .before .before .before .pre .1 .0)
+  prefix-requires c κs = (falls _ _ _ _ _ _ _ (c .before .before .before .before .before .pre .0) (le-refl _) (lit< tt), c .before .before .before .before .before .pre .1 .0)
 
   pub enum-told-4 : lts.Need-enum-told-4 cs (at-operator-at t) at-operator-reads.Post
-  enum-told-4 c = search needs
+  enum-told-4 c = c .match .keys4
 
   pub prefix-requires-2 : lts.Need-prefix-requires-2 cs (at-operator-at t) at-operator-reads.Post
-  prefix-requires-2 c κs = (omega (arith, c .before .before .before .before .before .pre .0), c .before .before .before .before .before .pre .1 .0)
+  prefix-requires-2 c κs = (falls _ _ _ _ _ _ _ (c .before .before .before .before .before .pre .0) (le-refl _) (lit< tt), c .before .before .before .before .before .pre .1 .0)
 
   pub enum-told-5 : lts.Need-enum-told-5 cs (at-operator-at t) at-operator-reads.Post
-  enum-told-5 c = search needs
+  enum-told-5 c = c .match .keys5
 
   pub prefix-requires-3 : lts.Need-prefix-requires-3 cs (at-operator-at t) at-operator-reads.Post
-  prefix-requires-3 c κs = (omega (arith, c .before .before .before .before .before .pre .0), c .before .before .before .before .before .pre .1 .0)
+  prefix-requires-3 c κs = (falls _ _ _ _ _ _ _ (c .before .before .before .before .before .pre .0) (le-refl _) (lit< tt), c .before .before .before .before .before .pre .1 .0)
 
   pub enum-told-6 : lts.Need-enum-told-6 cs (at-operator-at t) at-operator-reads.Post
-  enum-told-6 c = search needs
+  enum-told-6 c = c .match .keys6
 
   pub prefix-requires-4 : lts.Need-prefix-requires-4 cs (at-operator-at t) at-operator-reads.Post
-  prefix-requires-4 c κs = (omega (arith, c .before .before .before .before .before .pre .0), c .before .before .before .before .before .pre .1 .0)
+  prefix-requires-4 c κs = (falls _ _ _ _ _ _ _ (c .before .before .before .before .before .pre .0) (le-refl _) (lit< tt), c .before .before .before .before .before .pre .1 .0)
 
   pub enum-told-7 : lts.Need-enum-told-7 cs (at-operator-at t) at-operator-reads.Post
-  enum-told-7 c = search needs
+  enum-told-7 c = c .match .keys7
 
   pub sub-exp-requires : lts.Need-sub-exp-requires cs (at-operator-at t) at-operator-reads.Post
-  sub-exp-requires c κs = (omega (arith, c .before .before .before .before .before .pre .0), c .before .before .before .before .before .pre .1 .0)
+  sub-exp-requires c κs = (falls _ _ _ _ _ _ _ (c .before .before .before .before .before .pre .0) (le-refl _) (lit< tt), c .before .before .before .before .before .pre .1 .0)
 
   pub enum-told-8 : lts.Need-enum-told-8 cs (at-operator-at t) at-operator-reads.Post
-  enum-told-8 c = search needs
+  enum-told-8 c = c .match .keys8
 
   pub shell-requires : lts.Need-shell-requires cs (at-operator-at t) at-operator-reads.Post
-  shell-requires c κs = (omega (arith, c .before .before .before .before .before .pre .0), c .before .before .before .before .before .pre .1 .0)
+  shell-requires c κs = (falls _ _ _ _ _ _ _ (c .before .before .before .before .before .pre .0) (le-refl _) (lit< tt), c .before .before .before .before .before .pre .1 .0)
 
   pub same-length : lts.Need-same-length cs (at-operator-at t) at-operator-reads.Post
   same-length c = search needs

@@ -45,10 +45,10 @@ module _ (t : ℕ) where
   list-behind-requires c κs = (falls _ _ _ _ _ _ _ (c .before .before .before .before .before .pre .0) (le-refl _) (lit< tt), c .before .before .before .before .before .pre .1)
 
   pub enum-known-r : lts.Need-enum-known-r cs (call-at t) call-reads.Post
-  enum-known-r c = search needs
+  enum-known-r c = c .match .keys1
 
   pub enum-told : lts.Need-enum-told cs (call-at t) call-reads.Post
-  enum-told c = search needs
+  enum-told c = c .match .keys2
 
   pub same-length-2 : lts.Need-same-length-2 cs (call-at t) call-reads.Post
   same-length-2 c = c .before .before .before .before .list-behind .kept .1 .0

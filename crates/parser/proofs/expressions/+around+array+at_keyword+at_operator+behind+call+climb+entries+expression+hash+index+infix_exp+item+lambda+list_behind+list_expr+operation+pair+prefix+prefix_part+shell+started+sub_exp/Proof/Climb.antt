@@ -61,10 +61,10 @@ module _ (t : ℕ) where
       (falls _ _ _ _ _ _ _ (c .before .before .before .before .before .before .before .before .pre .0) (le-trans (c .before .before .before .before .before .loop .inv .on) (on-step _ _ (c .iterate .ensures))) (lit< tt), (ready-step _ _ (c .iterate .ensures) (ready-same (c .before .before .before .before .before .before .before .before .pre .1 .0) (c .before .before .before .before .before .loop .inv .same) (c .before .before .before .before .before .loop .inv .within)), c .before .before .before .before .before .loop .inv .fit, rw (c .iterate .ensures) (operates-on _ _ (ap (goes-on _) (sym (ap word (c .before .before .before .before .next .ensures) ∙ word-token _ (c .before .before .before .before .before .before .before .before .pre .1 .0 .sound .good (step (c .before .before .before .before .before .before .before .before .args .tokens .now) (c .before .before .before .before .before .loop .d))))) ∙ sym (c .before .before .before .goes-on .ensures) ∙ c .before .before .if1 .taken))))
 
   pub enum-known-r : lts.Need-enum-known-r cs (climb-at t) climb-reads.Post Inv-loop μ-loop
-  enum-known-r c = search needs
+  enum-known-r c = c .match .keys1
 
   pub enum-told : lts.Need-enum-told cs (climb-at t) climb-reads.Post Inv-loop μ-loop
-  enum-told c = search needs
+  enum-told c = c .match .keys2
 
   pub passed-requires : lts.Need-passed-requires cs (climb-at t) climb-reads.Post Inv-loop μ-loop
   passed-requires c κs = search needs

@@ -63,10 +63,10 @@ module _ (t : ℕ) where
   )
 
   pub enum-known-r : lts.Need-enum-known-r cs (entries-at t) entries-reads.Post Inv-loop μ-loop
-  enum-known-r c = search needs
+  enum-known-r c = c .match .keys1
 
   pub enum-told : lts.Need-enum-told cs (entries-at t) entries-reads.Post Inv-loop μ-loop
-  enum-told c = search needs
+  enum-told c = c .match .keys2
 
   pub same-length : lts.Need-same-length cs (entries-at t) entries-reads.Post Inv-loop μ-loop
   same-length c = c .before .before .before .before .behind .kept .1 .0 ∙ c .before .before .before .before .before .before .before .before .before .before .loop .inv .same

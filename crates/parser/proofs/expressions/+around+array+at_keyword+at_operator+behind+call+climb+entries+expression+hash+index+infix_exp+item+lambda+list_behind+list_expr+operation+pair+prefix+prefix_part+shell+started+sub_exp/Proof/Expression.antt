@@ -46,10 +46,10 @@ module _ (t : ℕ) where
   prefix-part-requires c κs = (omega (arith, c .before .before .before .before .pre .0, c .before .if1 .left), c .before .before .before .before .pre .1)
 
   pub enum-known-r : lts.Need-enum-known-r cs (expression-at t) expression-reads.Post
-  enum-known-r c = search needs
+  enum-known-r c = c .match .keys1
 
   pub enum-told : lts.Need-enum-told cs (expression-at t) expression-reads.Post
-  enum-told c = search needs
+  enum-told c = c .match .keys2
 
   pub passed-requires : lts.Need-passed-requires cs (expression-at t) expression-reads.Post
   passed-requires c κs = search needs

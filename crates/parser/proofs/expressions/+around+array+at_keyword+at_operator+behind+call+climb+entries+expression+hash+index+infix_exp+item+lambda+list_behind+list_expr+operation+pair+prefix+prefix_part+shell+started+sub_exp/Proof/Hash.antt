@@ -52,10 +52,10 @@ module _ (t : ℕ) where
   pair-requires c κs = (falls _ _ _ _ _ _ _ (c .before .before .before .before .before .before .pre .0) (on-step _ _ (c .before .before .before .iterate .ensures)) (lit< tt), ready-step _ _ (c .before .before .before .iterate .ensures) (c .before .before .before .before .before .before .pre .1))
 
   pub enum-known-r : lts.Need-enum-known-r cs (hash-at t) hash-reads.Post
-  enum-known-r c = search needs
+  enum-known-r c = c .match .keys1
 
   pub enum-told : lts.Need-enum-told cs (hash-at t) hash-reads.Post
-  enum-told c = search needs
+  enum-told c = c .match .keys2
 
   pub same-length-2 : lts.Need-same-length-2 cs (hash-at t) hash-reads.Post
   same-length-2 c = c .before .before .before .before .pair .kept .1 .0
@@ -69,10 +69,10 @@ module _ (t : ℕ) where
       (falls _ _ _ _ _ _ _ (c .before .before .before .before .before .before .before .before .before .before .before .before .before .pre .0) (le-trans (on-step _ _ (c .before .before .before .before .before .before .before .before .before .before .iterate .ensures)) (read-1 (c .before .before) .stands .on)) (lit< tt), (ready-same (c .before .before .before .before .before .before .before .before .before .before .before .before .before .pre .1) (c .before .before .before .before .before .before .pair .kept .1 .0) (read-1 (c .before .before) .stands .within), front-le (read-1 (c .before .before) .stands .front)))
 
   pub enum-known-q : lts.Need-enum-known-q cs (hash-at t) hash-reads.Post
-  enum-known-q c = search needs
+  enum-known-q c = c .match2 .keys1
 
   pub enum-told-2 : lts.Need-enum-told-2 cs (hash-at t) hash-reads.Post
-  enum-told-2 c = search needs
+  enum-told-2 c = c .match2 .keys2
 
   pub same-length-3 : lts.Need-same-length-3 cs (hash-at t) hash-reads.Post
   same-length-3 c = c .before .before .before .before .entries .kept .1 .0 ∙ c .before .before .before .before .before .before .before .before .before .before .before .pair .kept .1 .0

@@ -39,10 +39,10 @@ module _ (t : ℕ) where
   behind-requires c κs = (falls _ _ _ _ _ _ _ (c .before .before .before .before .before .before .pre .0) (on-step _ _ (c .before .before .iterate .ensures)) (lit< tt), (ready-step _ _ (c .before .before .iterate .ensures) (c .before .before .before .before .before .before .pre .1 .0), c .before .before .before .before .before .before .pre .1 .1))
 
   pub enum-known-r : lts.Need-enum-known-r cs (infix-exp-at t) infix-exp-reads.Post
-  enum-known-r c = search needs
+  enum-known-r c = c .match .keys1
 
   pub enum-told : lts.Need-enum-told cs (infix-exp-at t) infix-exp-reads.Post
-  enum-told c = search needs
+  enum-told c = c .match .keys2
 
   pub same-length : lts.Need-same-length cs (infix-exp-at t) infix-exp-reads.Post
   same-length c = c .before .before .before .before .behind .kept .1 .0

@@ -1,9 +1,9 @@
 -- `operation` meets its contract: a suffix, a call or an index by its operator, and an infix operator else.
+use lib.Dec.{lit<}
 use mathlib.Core.Path.{_≡_, refl, sym, ap, _∙_}
 use mathlib.Core.Bool.{Bool, true, false≢true, not}
 use mathlib.Core.List.{List, [], _∷_}
 use Prim.Native.Nat.{ℕ}
-use native.Mathlib.Omega.{arith}
 use borrow.Author.Tests.{not-true}
 use Rattle.grammar.specs.Words.{SIncr, SDecr, SLParen, SLBox, tok, class, code, by-code, infixes, infix-of, codes, operates}
 use Rattle.grammar.specs.Parsed.{match, choose}
@@ -15,6 +15,7 @@ use Rattle.parser.specs.Meets.{of-node}
 use Rattle.parser.specs.Contracts.{Follows}
 use Rattle.parser.proofs.Answers.{by-eq}
 use Rattle.parser.proofs.Matches.{word-of, none, unmatched}
+use Rattle.parser.proofs.Moves.{falls, le-refl}
 use borrow.Author.Needs.{needs}
 use Rattle.parser.proofs.expressions.call.Reads as call-reads
 use Rattle.words.proofs.current.Reads as current-reads
@@ -42,7 +43,7 @@ module _ (t : ℕ) where
   current-requires c κs = search needs
 
   pub enum-known-t : lts.Need-enum-known-t cs (operation-at t) operation-reads.Post
-  enum-known-t c = search needs
+  enum-known-t c = c .match .keys1
 
   pub returns : lts.Need-returns cs (operation-at t) operation-reads.Post
   unfolding operates infix-of by-code class code infixes codes
@@ -50,31 +51,31 @@ module _ (t : ℕ) where
       absurd (false≢true (sym (not-true _ (token-arm (λ w. not (operates w)) (but (8 ∷ []) 11) (c .before .current .result) (c .match .keys2) refl)) ∙ ap operates (sym (word-of (c .before .before .before .before .pre .1 .0) (c .before .current .ensures))) ∙ c .before .before .before .before .pre .1 .2))
 
   pub enum-told : lts.Need-enum-told cs (operation-at t) operation-reads.Post
-  enum-told c = search needs
+  enum-told c = c .match2 .keys1
 
   pub put-row-requires : lts.Need-put-row-requires cs (operation-at t) operation-reads.Post
   put-row-requires c κs = search needs
 
   pub enum-told-2 : lts.Need-enum-told-2 cs (operation-at t) operation-reads.Post
-  enum-told-2 c = search needs
+  enum-told-2 c = c .match2 .keys2
 
   pub put-row-requires-2 : lts.Need-put-row-requires-2 cs (operation-at t) operation-reads.Post
   put-row-requires-2 c κs = search needs
 
   pub enum-told-3 : lts.Need-enum-told-3 cs (operation-at t) operation-reads.Post
-  enum-told-3 c = search needs
+  enum-told-3 c = c .match2 .keys3
 
   pub call-requires : lts.Need-call-requires cs (operation-at t) operation-reads.Post
-  call-requires c κs = (omega (arith, c .before .before .before .before .before .before .before .before .before .pre .0), (c .before .before .before .before .before .before .before .before .before .pre .1 .0, c .before .before .before .before .before .before .before .before .before .pre .1 .1))
+  call-requires c κs = (falls _ _ _ _ _ _ _ (c .before .before .before .before .before .before .before .before .before .pre .0) (le-refl _) (lit< tt), (c .before .before .before .before .before .before .before .before .before .pre .1 .0, c .before .before .before .before .before .before .before .before .before .pre .1 .1))
 
   pub enum-told-4 : lts.Need-enum-told-4 cs (operation-at t) operation-reads.Post
-  enum-told-4 c = search needs
+  enum-told-4 c = c .match2 .keys4
 
   pub index-requires : lts.Need-index-requires cs (operation-at t) operation-reads.Post
-  index-requires c κs = (omega (arith, c .before .before .before .before .before .before .before .before .before .pre .0), (c .before .before .before .before .before .before .before .before .before .pre .1 .0, c .before .before .before .before .before .before .before .before .before .pre .1 .1))
+  index-requires c κs = (falls _ _ _ _ _ _ _ (c .before .before .before .before .before .before .before .before .before .pre .0) (le-refl _) (lit< tt), (c .before .before .before .before .before .before .before .before .before .pre .1 .0, c .before .before .before .before .before .before .before .before .before .pre .1 .1))
 
   pub infix-exp-requires : lts.Need-infix-exp-requires cs (operation-at t) operation-reads.Post
-  infix-exp-requires c κs = (omega (arith, c .before .before .before .before .before .before .before .before .pre .0), (c .before .before .before .before .before .before .before .before .pre .1 .0, c .before .before .before .before .before .before .before .before .pre .1 .1))
+  infix-exp-requires c κs = (falls _ _ _ _ _ _ _ (c .before .before .before .before .before .before .before .before .pre .0) (le-refl _) (lit< tt), (c .before .before .before .before .before .before .before .before .pre .1 .0, c .before .before .before .before .before .before .before .before .pre .1 .1))
 
   pub same-length : lts.Need-same-length cs (operation-at t) operation-reads.Post
   same-length c = search needs

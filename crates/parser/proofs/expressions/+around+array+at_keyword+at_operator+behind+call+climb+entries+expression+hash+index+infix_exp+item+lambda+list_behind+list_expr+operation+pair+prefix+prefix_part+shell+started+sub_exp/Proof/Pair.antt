@@ -35,10 +35,10 @@ module _ (t : ℕ) where
   expression-requires c κs = (falls _ _ _ _ _ _ _ (c .before .before .before .pre .0) (le-refl _) (lit< tt), c .before .before .before .pre .1)
 
   pub enum-known-r : lts.Need-enum-known-r cs (pair-at t) pair-reads.Post
-  enum-known-r c = search needs
+  enum-known-r c = c .match .keys1
 
   pub enum-told : lts.Need-enum-told cs (pair-at t) pair-reads.Post
-  enum-told c = search needs
+  enum-told c = c .match .keys2
 
   pub same-length : lts.Need-same-length cs (pair-at t) pair-reads.Post
   same-length c = c .before .before .before .before .expression .kept .1 .0
@@ -70,10 +70,10 @@ module _ (t : ℕ) where
   )
 
   pub enum-known-q : lts.Need-enum-known-q cs (pair-at t) pair-reads.Post
-  enum-known-q c = search needs
+  enum-known-q c = c .match2 .keys1
 
   pub enum-told-2 : lts.Need-enum-told-2 cs (pair-at t) pair-reads.Post
-  enum-told-2 c = search needs
+  enum-told-2 c = c .match2 .keys2
 
   pub same-length-3 : lts.Need-same-length-3 cs (pair-at t) pair-reads.Post
   same-length-3 c = c .before .before .before .before .behind .kept .1 .0 ∙ c .before .before .before .before .before .before .before .before .before .before .before .before .before .before .before .expression .kept .1 .0

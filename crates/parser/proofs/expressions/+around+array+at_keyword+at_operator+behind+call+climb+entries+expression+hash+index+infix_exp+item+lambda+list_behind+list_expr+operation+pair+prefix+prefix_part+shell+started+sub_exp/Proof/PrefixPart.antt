@@ -29,43 +29,43 @@ module _ (t : ℕ) where
   current-requires c κs = search needs
 
   pub enum-told : lts.Need-enum-told cs (prefix-part-at t) prefix-part-reads.Post
-  enum-told c = search needs
+  enum-told c = c .match .keys1
 
   pub dot-expression-requires : lts.Need-dot-expression-requires cs (prefix-part-at t) prefix-part-reads.Post
   dot-expression-requires c κs = (c .before .before .before .before .before .before .pre .1, word-of (c .before .before .before .before .before .before .pre .1) (c .before .before .before .current .ensures) ∙ ap word (c .before .enum-told .given .1))
 
   pub enum-told-2 : lts.Need-enum-told-2 cs (prefix-part-at t) prefix-part-reads.Post
-  enum-told-2 c = search needs
+  enum-told-2 c = c .match .keys2
 
   pub leaf-requires : lts.Need-leaf-requires cs (prefix-part-at t) prefix-part-reads.Post
   leaf-requires c κs = search needs
 
   pub enum-told-3 : lts.Need-enum-told-3 cs (prefix-part-at t) prefix-part-reads.Post
-  enum-told-3 c = search needs
+  enum-told-3 c = c .match .keys3
 
   pub leaf-requires-2 : lts.Need-leaf-requires-2 cs (prefix-part-at t) prefix-part-reads.Post
   leaf-requires-2 c κs = search needs
 
   pub enum-told-4 : lts.Need-enum-told-4 cs (prefix-part-at t) prefix-part-reads.Post
-  enum-told-4 c = search needs
+  enum-told-4 c = c .match .keys4
 
   pub leaf-requires-3 : lts.Need-leaf-requires-3 cs (prefix-part-at t) prefix-part-reads.Post
   leaf-requires-3 c κs = search needs
 
   pub enum-told-5 : lts.Need-enum-told-5 cs (prefix-part-at t) prefix-part-reads.Post
-  enum-told-5 c = search needs
+  enum-told-5 c = c .match .keys5
 
   pub leaf-requires-4 : lts.Need-leaf-requires-4 cs (prefix-part-at t) prefix-part-reads.Post
   leaf-requires-4 c κs = search needs
 
   pub enum-known-t : lts.Need-enum-known-t cs (prefix-part-at t) prefix-part-reads.Post
-  enum-known-t c = search needs
+  enum-known-t c = c .match .keys6
 
   pub at-keyword-requires : lts.Need-at-keyword-requires cs (prefix-part-at t) prefix-part-reads.Post
   at-keyword-requires c κs = (falls _ _ _ _ _ _ _ (c .before .before .before .before .before .before .before .pre .0) (le-refl _) (lit< tt), (c .before .before .before .before .before .before .before .pre .1, word-of (c .before .before .before .before .before .before .before .pre .1) (c .before .before .before .before .current .ensures) ∙ ap word (c .before .before .t .given .1)))
 
   pub enum-known-t-2 : lts.Need-enum-known-t-2 cs (prefix-part-at t) prefix-part-reads.Post
-  enum-known-t-2 c = search needs
+  enum-known-t-2 c = c .match .keys7
 
   pub at-operator-requires : lts.Need-at-operator-requires cs (prefix-part-at t) prefix-part-reads.Post
   at-operator-requires c κs = (falls _ _ _ _ _ _ _ (c .before .before .before .before .before .before .before .pre .0) (le-refl _) (lit< tt), (c .before .before .before .before .before .before .before .pre .1, word-of (c .before .before .before .before .before .before .before .pre .1) (c .before .before .before .before .current .ensures) ∙ ap word (c .before .before .t2 .given .1)))

@@ -38,10 +38,10 @@ module _ (t : ℕ) where
   expression-requires c κs = (falls _ _ _ _ _ _ _ (c .before .before .before .before .before .before .pre .0) (on-step _ _ (c .before .before .before .iterate .ensures)) (lit< tt), ready-step _ _ (c .before .before .before .iterate .ensures) (c .before .before .before .before .before .before .pre .1))
 
   pub enum-known-r : lts.Need-enum-known-r cs (sub-exp-at t) sub-exp-reads.Post
-  enum-known-r c = search needs
+  enum-known-r c = c .match .keys1
 
   pub enum-told : lts.Need-enum-told cs (sub-exp-at t) sub-exp-reads.Post
-  enum-told c = search needs
+  enum-told c = c .match .keys2
 
   pub same-length : lts.Need-same-length cs (sub-exp-at t) sub-exp-reads.Post
   same-length c = c .before .before .before .before .expression .kept .1 .0

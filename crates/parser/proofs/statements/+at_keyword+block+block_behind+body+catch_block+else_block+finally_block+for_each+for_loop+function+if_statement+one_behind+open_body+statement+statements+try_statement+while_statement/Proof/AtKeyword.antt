@@ -5,14 +5,13 @@ use mathlib.Core.Bool.{Bool, true, false, not, _||_, false≢true}
 use mathlib.Core.List.{List, [], _∷_}
 use mathlib.Core.Logic.{⊎-elim}
 use Prim.Native.Nat.{ℕ}
-use native.Mathlib.Omega.{arith}
 use lib.Dec.{eqb}
 use borrow.Author.Tests.{eqb-true}
 use Rattle.grammar.specs.Words.{SSemiColon, KIf, KWhile, KFor, KConst, KVar, KFunc, KTry, KThrow, KForEach, KAssert, tok, step, next-is}
 use Rattle.grammar.specs.Tree.{Tree, Trees}
 use Rattle.grammar.specs.Parsed.{refused, Reader, match, choose}
-use Rattle.grammar.specs.Expressions.{Rec}
-use Rattle.grammar.specs.Statements.{begun, alone, throw, kept}
+use Rattle.grammar.specs.Expressions.{Rec, expression}
+use Rattle.grammar.specs.Statements.{begun, alone, throw, kept, statement, var, const, if, assert, while, function, for, try, foreach}
 use Rattle.tokens.specs.Tokens.{word}
 use Rattle.tokens.specs.declared.Keyword.{Keyword as Key}
 use Rattle.tokens.specs.declared.Token.the-variants as token
@@ -20,7 +19,7 @@ use Rattle.tokens.proofs.Arms.{keyword-arm}
 use Rattle.tokens.proofs.Tests.{but}
 use Rattle.parser.specs.Contracts.{further, closed, around}
 use Rattle.parser.proofs.Answers.{by-eq, refuses, need-met, need-failed, sooner}
-use Rattle.parser.proofs.Moves.{falls, on-step, ready-step, small}
+use Rattle.parser.proofs.Moves.{falls, le-refl, on-step, ready-step, small}
 use Rattle.parser.proofs.Lists.{plain, by-expression}
 use borrow.Author.Needs.{needs}
 use Rattle.parser.proofs.simple.alone.Reads as alone-reads
@@ -42,39 +41,89 @@ use Rattle.parser.proofs.statements.while_statement.Reads as while-stat
 use Rattle.parser.proofs.statements.+at_keyword+block+block_behind+body+catch_block+else_block+finally_block+for_each+for_loop+function+if_statement+one_behind+open_body+statement+statements+try_statement+while_statement.Lts-at_keyword as lts
 use Rattle.parser.proofs.statements.+at_keyword+block+block_behind+body+catch_block+else_block+finally_block+for_each+for_loop+function+if_statement+one_behind+open_body+statement+statements+try_statement+while_statement.Proof.Measures.{at-keyword-at, for-each-below, for-loop-below, function-below, if-statement-below, try-statement-below, while-statement-below}
 
--- A statement that goes further is refused where it ends at once.
-module _ (ts : List ℕ) (expr : Rec) (stmt : Reader Trees) (at room : ℕ) (semi : next-is ts at SSemiColon ≡ true) where
-  abbrev Stops : Type 0
-  Stops = kept ts expr stmt at room ≡ refused 10 (step ts at)
+-- The statements that go further, each by its keyword.
+module _ (ts : List ℕ) (expr : Rec) (stmt : Reader Trees) (at room : ℕ) where
+  abbrev Begins : ℕ → Reader Tree → Type 0
+  Begins w reader = tok ts at ≡ w → kept ts expr stmt at room ≡ begun ts expr stmt reader at room
 
-  stop : (reader : Reader Tree) → begun ts expr stmt reader at room ≡ refused 10 (step ts at)
+  at-var : Begins KVar (λ k. var ts expr stmt (step ts k))
+  unfolding kept match choose
+  at-var e = rw e
+
+  at-const : Begins KConst (λ k. const ts expr stmt (step ts k))
+  unfolding kept match choose
+  at-const e = rw e
+
+  at-if : Begins KIf (if ts expr stmt)
+  unfolding kept match choose
+  at-if e = rw e
+
+  at-assert : Begins KAssert (assert ts expr stmt)
+  unfolding kept match choose
+  at-assert e = rw e
+
+  at-while : Begins KWhile (while ts expr stmt)
+  unfolding kept match choose
+  at-while e = rw e
+
+  at-function : Begins KFunc (λ k. function ts expr stmt (step ts k))
+  unfolding kept match choose
+  at-function e = rw e
+
+  at-for : Begins KFor (for ts expr stmt)
+  unfolding kept match choose
+  at-for e = rw e
+
+  at-throw : Begins KThrow (throw ts expr stmt)
+  unfolding kept match choose
+  at-throw e = rw e
+
+  at-try : Begins KTry (try ts expr stmt)
+  unfolding kept match choose
+  at-try e = rw e
+
+  at-foreach : Begins KForEach (foreach ts expr stmt)
+  unfolding kept match choose
+  at-foreach e = rw e
+
+  -- One that does not end at once.
+  on : {w : ℕ} (reader : Reader Tree) → Begins w reader → tok ts at ≡ w → next-is ts at SSemiColon ≡ false → kept ts expr stmt at room ≡ reader at room
   unfolding begun
-  stop reader = need-failed _ _ _ (ap not semi)
+  on reader b e n = b e ∙ need-met _ _ _ (ap not n)
 
-  one : (k : ℕ) → (tok ts at ≡ k → Stops) → eqb (tok ts at) k ≡ true → Stops
-  one k f e = f (eqb-true (tok ts at) k e)
+  -- One that ends at once is refused.
+  module _ (semi : next-is ts at SSemiColon ≡ true) where
+    abbrev Stops : Type 0
+    Stops = kept ts expr stmt at room ≡ refused 10 (step ts at)
 
-  or : {a b : Bool} → (a ≡ true → Stops) → (b ≡ true → Stops) → (a || b) ≡ true → Stops
-  or {a = true} f g e = f refl
-  or {a = false} f g e = g e
+    stop : {w : ℕ} (reader : Reader Tree) → Begins w reader → eqb (tok ts at) w ≡ true → Stops
+    unfolding begun
+    stop {w} reader b e = b (eqb-true (tok ts at) w e) ∙ need-failed _ _ _ (ap not semi)
 
-  stops : further (tok ts at) ≡ true → Stops
-  unfolding further kept match choose
-  stops = or (or (or (or (or (or (or (or (or
-      (one KVar (λ e. rw e (stop _)))
-      (one KConst (λ e. rw e (stop _))))
-      (one KIf (λ e. rw e (stop _))))
-      (one KAssert (λ e. rw e (stop _))))
-      (one KWhile (λ e. rw e (stop _))))
-      (one KFunc (λ e. rw e (stop _))))
-      (one KFor (λ e. rw e (stop _))))
-      (one KThrow (λ e. rw e (stop _))))
-      (one KTry (λ e. rw e (stop _))))
-      (one KForEach (λ e. rw e (stop _)))
+    or : {a b : Bool} → (a ≡ true → Stops) → (b ≡ true → Stops) → (a || b) ≡ true → Stops
+    or {a = true} f g e = f refl
+    or {a = false} f g e = g e
+
+    stops : further (tok ts at) ≡ true → Stops
+    unfolding further
+    stops = or (or (or (or (or (or (or (or (or
+        (stop _ at-var)
+        (stop _ at-const))
+        (stop _ at-if))
+        (stop _ at-assert))
+        (stop _ at-while))
+        (stop _ at-function))
+        (stop _ at-for))
+        (stop _ at-throw))
+        (stop _ at-try))
+        (stop _ at-foreach)
 
 module _ (t : ℕ) where
   abbrev cs : lts.Claims
   cs = (iterate-reads.Asked, iterate-reads.Learnt, goes-further-reads.Asked, goes-further-reads.Learnt, next-symbol-is-reads.Asked, next-symbol-is-reads.Learnt, alone-reads.Asked, alone-reads.Learnt, var-statement-reads.Asked, var-statement-reads.Learnt, const-statement-reads.Asked, const-statement-reads.Learnt, if-statement-below t, if-statement-reads.Post, assert-statement-reads.Asked, assert-statement-reads.Learnt, while-statement-below t, while-statement-reads.Post, return-statement-reads.Asked, return-statement-reads.Learnt, function-below t, function-reads.Post, for-loop-below t, for-loop-reads.Post, around-reads.Asked, around-reads.Learnt, try-statement-below t, try-statement-reads.Post, for-each-below t, for-each-reads.Post)
+
+  went : (c : lts.Joined1 cs (at-keyword-at t) at-keyword-reads.Post) → further (word (token.Keyword (c .before .before .before .before .before .args .k))) ≡ true → next-is (c .before .before .before .before .before .args .tokens .now) (c .before .before .before .before .before .args .c) SSemiColon ≡ false
+  went c = λ said. ⊎-elim (λ j. sym (j .1 .ensures) ∙ j .2 .left) (λ j. absurd (false≢true (sym (j .left) ∙ c .before .goes-further .ensures ∙ said))) (c .if1 .came)
 
   pub iterate-requires : lts.Need-iterate-requires cs (at-keyword-at t) at-keyword-reads.Post
   iterate-requires c κs = search needs
@@ -89,82 +138,82 @@ module _ (t : ℕ) where
   returns c = rw (c .before .before .before .before .iterate .ensures) (refuses _ _ _ (stops _ _ _ _ _ (sym (c .before .next-symbol-is .ensures) ∙ c .if2 .taken) (rw (c .before .before .before .before .before .before .before .pre .1 .1) (sym (c .before .before .before .goes-further .ensures) ∙ c .before .before .if1 .taken))))
 
   pub enum-told : lts.Need-enum-told cs (at-keyword-at t) at-keyword-reads.Post
-  enum-told c = search needs
+  enum-told c = c .match .keys1
 
   pub alone-requires : lts.Need-alone-requires cs (at-keyword-at t) at-keyword-reads.Post
   alone-requires c κs = c .before .before .before .before .before .before .before .before .pre .1 .0
 
   pub enum-told-2 : lts.Need-enum-told-2 cs (at-keyword-at t) at-keyword-reads.Post
-  enum-told-2 c = search needs
+  enum-told-2 c = c .match .keys2
 
   pub alone-requires-2 : lts.Need-alone-requires-2 cs (at-keyword-at t) at-keyword-reads.Post
   alone-requires-2 c κs = c .before .before .before .before .before .before .before .before .pre .1 .0
 
   pub enum-told-3 : lts.Need-enum-told-3 cs (at-keyword-at t) at-keyword-reads.Post
-  enum-told-3 c = search needs
+  enum-told-3 c = c .match .keys3
 
   pub var-statement-requires : lts.Need-var-statement-requires cs (at-keyword-at t) at-keyword-reads.Post
   var-statement-requires c κs = ready-step _ _ (c .before .before .before .before .before .iterate .ensures) (c .before .before .before .before .before .before .before .before .pre .1 .0)
 
   pub enum-told-4 : lts.Need-enum-told-4 cs (at-keyword-at t) at-keyword-reads.Post
-  enum-told-4 c = search needs
+  enum-told-4 c = c .match .keys4
 
   pub const-statement-requires : lts.Need-const-statement-requires cs (at-keyword-at t) at-keyword-reads.Post
   const-statement-requires c κs = ready-step _ _ (c .before .before .before .before .before .iterate .ensures) (c .before .before .before .before .before .before .before .before .pre .1 .0)
 
   pub enum-told-5 : lts.Need-enum-told-5 cs (at-keyword-at t) at-keyword-reads.Post
-  enum-told-5 c = search needs
+  enum-told-5 c = c .match .keys5
 
   pub if-statement-requires : lts.Need-if-statement-requires cs (at-keyword-at t) at-keyword-reads.Post
-  if-statement-requires c κs = (omega (arith, c .before .before .before .before .before .before .before .before .pre .0), c .before .before .before .before .before .before .before .before .pre .1 .0)
+  if-statement-requires c κs = (falls _ _ _ _ _ _ _ (c .before .before .before .before .before .before .before .before .pre .0) (le-refl _) (lit< tt), c .before .before .before .before .before .before .before .before .pre .1 .0)
 
   pub enum-told-6 : lts.Need-enum-told-6 cs (at-keyword-at t) at-keyword-reads.Post
-  enum-told-6 c = search needs
+  enum-told-6 c = c .match .keys6
 
   pub assert-statement-requires : lts.Need-assert-statement-requires cs (at-keyword-at t) at-keyword-reads.Post
   assert-statement-requires c κs = c .before .before .before .before .before .before .before .before .pre .1 .0
 
   pub enum-told-7 : lts.Need-enum-told-7 cs (at-keyword-at t) at-keyword-reads.Post
-  enum-told-7 c = search needs
+  enum-told-7 c = c .match .keys7
 
   pub while-statement-requires : lts.Need-while-statement-requires cs (at-keyword-at t) at-keyword-reads.Post
-  while-statement-requires c κs = (omega (arith, c .before .before .before .before .before .before .before .before .pre .0), c .before .before .before .before .before .before .before .before .pre .1 .0)
+  while-statement-requires c κs = (falls _ _ _ _ _ _ _ (c .before .before .before .before .before .before .before .before .pre .0) (le-refl _) (lit< tt), c .before .before .before .before .before .before .before .before .pre .1 .0)
 
   pub enum-told-8 : lts.Need-enum-told-8 cs (at-keyword-at t) at-keyword-reads.Post
-  enum-told-8 c = search needs
+  enum-told-8 c = c .match .keys8
 
   pub return-statement-requires : lts.Need-return-statement-requires cs (at-keyword-at t) at-keyword-reads.Post
   return-statement-requires c κs = c .before .before .before .before .before .before .before .before .pre .1 .0
 
   pub enum-told-9 : lts.Need-enum-told-9 cs (at-keyword-at t) at-keyword-reads.Post
-  enum-told-9 c = search needs
+  enum-told-9 c = c .match .keys9
 
   pub function-requires : lts.Need-function-requires cs (at-keyword-at t) at-keyword-reads.Post
   function-requires c κs = (falls _ _ _ _ _ _ _ (c .before .before .before .before .before .before .before .before .pre .0) (on-step _ _ (c .before .before .before .before .before .iterate .ensures)) (lit< tt), ready-step _ _ (c .before .before .before .before .before .iterate .ensures) (c .before .before .before .before .before .before .before .before .pre .1 .0))
 
   pub enum-told-10 : lts.Need-enum-told-10 cs (at-keyword-at t) at-keyword-reads.Post
-  enum-told-10 c = search needs
+  enum-told-10 c = c .match .keys10
 
   pub for-loop-requires : lts.Need-for-loop-requires cs (at-keyword-at t) at-keyword-reads.Post
-  for-loop-requires c κs = (omega (arith, c .before .before .before .before .before .before .before .before .pre .0), c .before .before .before .before .before .before .before .before .pre .1 .0)
+  for-loop-requires c κs = (falls _ _ _ _ _ _ _ (c .before .before .before .before .before .before .before .before .pre .0) (le-refl _) (lit< tt), c .before .before .before .before .before .before .before .before .pre .1 .0)
 
   pub enum-told-11 : lts.Need-enum-told-11 cs (at-keyword-at t) at-keyword-reads.Post
-  enum-told-11 c = search needs
+  enum-told-11 c = c .match .keys11
 
   pub around-requires : lts.Need-around-requires cs (at-keyword-at t) at-keyword-reads.Post
   around-requires c κs = (ready-step _ _ (c .before .before .before .before .before .iterate .ensures) (c .before .before .before .before .before .before .before .before .pre .1 .0), small (c .before .before .before .before .before .before .before .before .pre .1 .0))
 
   pub enum-told-12 : lts.Need-enum-told-12 cs (at-keyword-at t) at-keyword-reads.Post
-  enum-told-12 c = search needs
+  enum-told-12 c = c .match .keys12
 
   pub try-statement-requires : lts.Need-try-statement-requires cs (at-keyword-at t) at-keyword-reads.Post
-  try-statement-requires c κs = (omega (arith, c .before .before .before .before .before .before .before .before .pre .0), c .before .before .before .before .before .before .before .before .pre .1 .0)
+  try-statement-requires c κs = (falls _ _ _ _ _ _ _ (c .before .before .before .before .before .before .before .before .pre .0) (le-refl _) (lit< tt), c .before .before .before .before .before .before .before .before .pre .1 .0)
 
   pub enum-told-13 : lts.Need-enum-told-13 cs (at-keyword-at t) at-keyword-reads.Post
-  enum-told-13 c = search needs
+  enum-told-13 c = c .match .keys13
 
   pub for-each-requires : lts.Need-for-each-requires cs (at-keyword-at t) at-keyword-reads.Post
-  for-each-requires c κs = (omega (arith, c .before .before .before .before .before .before .before .before .pre .0), c .before .before .before .before .before .before .before .before .pre .1 .0)
+  for-each-requires c κs = (falls _ _ _ _ _ _ _ (c .before .before .before .before .before .before .before .before .pre .0) (le-refl _) (lit< tt), c .before .before .before .before .before .before .before .before .pre .1 .0)
 
   pub around-requires-2 : lts.Need-around-requires-2 cs (at-keyword-at t) at-keyword-reads.Post
   around-requires-2 c κs = (c .before .before .before .before .before .before .before .pre .1 .0, small (c .before .before .before .before .before .before .before .pre .1 .0))
@@ -187,36 +236,36 @@ module _ (t : ℕ) where
   same-length-3 c = search needs
 
   pub returns-4 : lts.Need-returns-4 cs (at-keyword-at t) at-keyword-reads.Post
-  unfolding kept match choose begun further
-  returns-4 c = let told = c .before .before .before .before .enum-told3 .given .1 in rw (c .before .before .before .before .before .before .before .before .before .before .before .pre .1 .1, told) (by-eq (need-met _ _ _ (ap not (⊎-elim (λ j. sym (j .1 .ensures) ∙ j .2 .left) (λ j. absurd (false≢true (sym (j .left) ∙ c .before .before .before .before .before .before .before .goes-further .ensures ∙ ap (λ (k : Key). further (word (token.Keyword k))) told))) (c .before .before .before .before .before .before .if1 .came)))) (sooner (on-step _ _ (c .before .before .before .before .before .before .before .before .iterate .ensures)) (rw (← (c .before .before .before .before .before .before .before .before .iterate .ensures)) (c .before .before .var-statement .ensures))))
+  unfolding further
+  returns-4 c = let told = c .before .before .before .before .enum-told3 .given .1 in by-eq (on (c .before .before .before .before .before .before .before .before .before .before .before .args .tokens .now) (expression (c .before .before .before .before .before .before .before .before .before .before .before .args .tokens .now) (c .before .before .before .before .before .before .before .before .before .before .before .args .less)) (statement (c .before .before .before .before .before .before .before .before .before .before .before .args .tokens .now) (c .before .before .before .before .before .before .before .before .before .before .before .args .less)) _ _ _ (at-var (c .before .before .before .before .before .before .before .before .before .before .before .args .tokens .now) (expression (c .before .before .before .before .before .before .before .before .before .before .before .args .tokens .now) (c .before .before .before .before .before .before .before .before .before .before .before .args .less)) (statement (c .before .before .before .before .before .before .before .before .before .before .before .args .tokens .now) (c .before .before .before .before .before .before .before .before .before .before .before .args .less)) _ _) (c .before .before .before .before .before .before .before .before .before .before .before .pre .1 .1 ∙ ap (λ (k : Key). word (token.Keyword k)) told) (went (c .before .before .before .before .before .before) (ap (λ (k : Key). further (word (token.Keyword k))) told))) (sooner (on-step _ _ (c .before .before .before .before .before .before .before .before .iterate .ensures)) (rw (← (c .before .before .before .before .before .before .before .before .iterate .ensures)) (c .before .before .var-statement .ensures)))
 
   pub same-length-4 : lts.Need-same-length-4 cs (at-keyword-at t) at-keyword-reads.Post
   same-length-4 c = search needs
 
   pub returns-5 : lts.Need-returns-5 cs (at-keyword-at t) at-keyword-reads.Post
-  unfolding kept match choose begun further
-  returns-5 c = let told = c .before .before .before .before .enum-told4 .given .1 in rw (c .before .before .before .before .before .before .before .before .before .before .before .pre .1 .1, told) (by-eq (need-met _ _ _ (ap not (⊎-elim (λ j. sym (j .1 .ensures) ∙ j .2 .left) (λ j. absurd (false≢true (sym (j .left) ∙ c .before .before .before .before .before .before .before .goes-further .ensures ∙ ap (λ (k : Key). further (word (token.Keyword k))) told))) (c .before .before .before .before .before .before .if1 .came)))) (sooner (on-step _ _ (c .before .before .before .before .before .before .before .before .iterate .ensures)) (rw (← (c .before .before .before .before .before .before .before .before .iterate .ensures)) (c .before .before .const-statement .ensures))))
+  unfolding further
+  returns-5 c = let told = c .before .before .before .before .enum-told4 .given .1 in by-eq (on (c .before .before .before .before .before .before .before .before .before .before .before .args .tokens .now) (expression (c .before .before .before .before .before .before .before .before .before .before .before .args .tokens .now) (c .before .before .before .before .before .before .before .before .before .before .before .args .less)) (statement (c .before .before .before .before .before .before .before .before .before .before .before .args .tokens .now) (c .before .before .before .before .before .before .before .before .before .before .before .args .less)) _ _ _ (at-const (c .before .before .before .before .before .before .before .before .before .before .before .args .tokens .now) (expression (c .before .before .before .before .before .before .before .before .before .before .before .args .tokens .now) (c .before .before .before .before .before .before .before .before .before .before .before .args .less)) (statement (c .before .before .before .before .before .before .before .before .before .before .before .args .tokens .now) (c .before .before .before .before .before .before .before .before .before .before .before .args .less)) _ _) (c .before .before .before .before .before .before .before .before .before .before .before .pre .1 .1 ∙ ap (λ (k : Key). word (token.Keyword k)) told) (went (c .before .before .before .before .before .before) (ap (λ (k : Key). further (word (token.Keyword k))) told))) (sooner (on-step _ _ (c .before .before .before .before .before .before .before .before .iterate .ensures)) (rw (← (c .before .before .before .before .before .before .before .before .iterate .ensures)) (c .before .before .const-statement .ensures)))
 
   pub same-length-5 : lts.Need-same-length-5 cs (at-keyword-at t) at-keyword-reads.Post
   same-length-5 c = search needs
 
   pub returns-6 : lts.Need-returns-6 cs (at-keyword-at t) at-keyword-reads.Post
-  unfolding kept match choose begun further
-  returns-6 c = let told = c .before .before .before .before .enum-told5 .given .1 in rw (c .before .before .before .before .before .before .before .before .before .before .before .pre .1 .1, told) (by-eq (need-met _ _ _ (ap not (⊎-elim (λ j. sym (j .1 .ensures) ∙ j .2 .left) (λ j. absurd (false≢true (sym (j .left) ∙ c .before .before .before .before .before .before .before .goes-further .ensures ∙ ap (λ (k : Key). further (word (token.Keyword k))) told))) (c .before .before .before .before .before .before .if1 .came)))) (c .before .before .if-statement .ensures))
+  unfolding further
+  returns-6 c = let told = c .before .before .before .before .enum-told5 .given .1 in by-eq (on (c .before .before .before .before .before .before .before .before .before .before .before .args .tokens .now) (expression (c .before .before .before .before .before .before .before .before .before .before .before .args .tokens .now) (c .before .before .before .before .before .before .before .before .before .before .before .args .less)) (statement (c .before .before .before .before .before .before .before .before .before .before .before .args .tokens .now) (c .before .before .before .before .before .before .before .before .before .before .before .args .less)) _ _ _ (at-if (c .before .before .before .before .before .before .before .before .before .before .before .args .tokens .now) (expression (c .before .before .before .before .before .before .before .before .before .before .before .args .tokens .now) (c .before .before .before .before .before .before .before .before .before .before .before .args .less)) (statement (c .before .before .before .before .before .before .before .before .before .before .before .args .tokens .now) (c .before .before .before .before .before .before .before .before .before .before .before .args .less)) _ _) (c .before .before .before .before .before .before .before .before .before .before .before .pre .1 .1 ∙ ap (λ (k : Key). word (token.Keyword k)) told) (went (c .before .before .before .before .before .before) (ap (λ (k : Key). further (word (token.Keyword k))) told))) (c .before .before .if-statement .ensures)
 
   pub same-length-6 : lts.Need-same-length-6 cs (at-keyword-at t) at-keyword-reads.Post
   same-length-6 c = search needs
 
   pub returns-7 : lts.Need-returns-7 cs (at-keyword-at t) at-keyword-reads.Post
-  unfolding kept match choose begun further
-  returns-7 c = let told = c .before .before .before .before .enum-told6 .given .1 in rw (c .before .before .before .before .before .before .before .before .before .before .before .pre .1 .1, told) (by-eq (need-met _ _ _ (ap not (⊎-elim (λ j. sym (j .1 .ensures) ∙ j .2 .left) (λ j. absurd (false≢true (sym (j .left) ∙ c .before .before .before .before .before .before .before .goes-further .ensures ∙ ap (λ (k : Key). further (word (token.Keyword k))) told))) (c .before .before .before .before .before .before .if1 .came)))) (c .before .before .assert-statement .ensures))
+  unfolding further
+  returns-7 c = let told = c .before .before .before .before .enum-told6 .given .1 in by-eq (on (c .before .before .before .before .before .before .before .before .before .before .before .args .tokens .now) (expression (c .before .before .before .before .before .before .before .before .before .before .before .args .tokens .now) (c .before .before .before .before .before .before .before .before .before .before .before .args .less)) (statement (c .before .before .before .before .before .before .before .before .before .before .before .args .tokens .now) (c .before .before .before .before .before .before .before .before .before .before .before .args .less)) _ _ _ (at-assert (c .before .before .before .before .before .before .before .before .before .before .before .args .tokens .now) (expression (c .before .before .before .before .before .before .before .before .before .before .before .args .tokens .now) (c .before .before .before .before .before .before .before .before .before .before .before .args .less)) (statement (c .before .before .before .before .before .before .before .before .before .before .before .args .tokens .now) (c .before .before .before .before .before .before .before .before .before .before .before .args .less)) _ _) (c .before .before .before .before .before .before .before .before .before .before .before .pre .1 .1 ∙ ap (λ (k : Key). word (token.Keyword k)) told) (went (c .before .before .before .before .before .before) (ap (λ (k : Key). further (word (token.Keyword k))) told))) (c .before .before .assert-statement .ensures)
 
   pub same-length-7 : lts.Need-same-length-7 cs (at-keyword-at t) at-keyword-reads.Post
   same-length-7 c = search needs
 
   pub returns-8 : lts.Need-returns-8 cs (at-keyword-at t) at-keyword-reads.Post
-  unfolding kept match choose begun further
-  returns-8 c = let told = c .before .before .before .before .enum-told7 .given .1 in rw (c .before .before .before .before .before .before .before .before .before .before .before .pre .1 .1, told) (by-eq (need-met _ _ _ (ap not (⊎-elim (λ j. sym (j .1 .ensures) ∙ j .2 .left) (λ j. absurd (false≢true (sym (j .left) ∙ c .before .before .before .before .before .before .before .goes-further .ensures ∙ ap (λ (k : Key). further (word (token.Keyword k))) told))) (c .before .before .before .before .before .before .if1 .came)))) (c .before .before .while-statement .ensures))
+  unfolding further
+  returns-8 c = let told = c .before .before .before .before .enum-told7 .given .1 in by-eq (on (c .before .before .before .before .before .before .before .before .before .before .before .args .tokens .now) (expression (c .before .before .before .before .before .before .before .before .before .before .before .args .tokens .now) (c .before .before .before .before .before .before .before .before .before .before .before .args .less)) (statement (c .before .before .before .before .before .before .before .before .before .before .before .args .tokens .now) (c .before .before .before .before .before .before .before .before .before .before .before .args .less)) _ _ _ (at-while (c .before .before .before .before .before .before .before .before .before .before .before .args .tokens .now) (expression (c .before .before .before .before .before .before .before .before .before .before .before .args .tokens .now) (c .before .before .before .before .before .before .before .before .before .before .before .args .less)) (statement (c .before .before .before .before .before .before .before .before .before .before .before .args .tokens .now) (c .before .before .before .before .before .before .before .before .before .before .before .args .less)) _ _) (c .before .before .before .before .before .before .before .before .before .before .before .pre .1 .1 ∙ ap (λ (k : Key). word (token.Keyword k)) told) (went (c .before .before .before .before .before .before) (ap (λ (k : Key). further (word (token.Keyword k))) told))) (c .before .before .while-statement .ensures)
 
   pub same-length-8 : lts.Need-same-length-8 cs (at-keyword-at t) at-keyword-reads.Post
   same-length-8 c = search needs
@@ -229,36 +278,36 @@ module _ (t : ℕ) where
   same-length-9 c = search needs
 
   pub returns-10 : lts.Need-returns-10 cs (at-keyword-at t) at-keyword-reads.Post
-  unfolding kept match choose begun further
-  returns-10 c = let told = c .before .before .before .before .enum-told9 .given .1 in rw (c .before .before .before .before .before .before .before .before .before .before .before .pre .1 .1, told) (by-eq (need-met _ _ _ (ap not (⊎-elim (λ j. sym (j .1 .ensures) ∙ j .2 .left) (λ j. absurd (false≢true (sym (j .left) ∙ c .before .before .before .before .before .before .before .goes-further .ensures ∙ ap (λ (k : Key). further (word (token.Keyword k))) told))) (c .before .before .before .before .before .before .if1 .came)))) (sooner (on-step _ _ (c .before .before .before .before .before .before .before .before .iterate .ensures)) (rw (← (c .before .before .before .before .before .before .before .before .iterate .ensures)) (c .before .before .function .ensures))))
+  unfolding further
+  returns-10 c = let told = c .before .before .before .before .enum-told9 .given .1 in by-eq (on (c .before .before .before .before .before .before .before .before .before .before .before .args .tokens .now) (expression (c .before .before .before .before .before .before .before .before .before .before .before .args .tokens .now) (c .before .before .before .before .before .before .before .before .before .before .before .args .less)) (statement (c .before .before .before .before .before .before .before .before .before .before .before .args .tokens .now) (c .before .before .before .before .before .before .before .before .before .before .before .args .less)) _ _ _ (at-function (c .before .before .before .before .before .before .before .before .before .before .before .args .tokens .now) (expression (c .before .before .before .before .before .before .before .before .before .before .before .args .tokens .now) (c .before .before .before .before .before .before .before .before .before .before .before .args .less)) (statement (c .before .before .before .before .before .before .before .before .before .before .before .args .tokens .now) (c .before .before .before .before .before .before .before .before .before .before .before .args .less)) _ _) (c .before .before .before .before .before .before .before .before .before .before .before .pre .1 .1 ∙ ap (λ (k : Key). word (token.Keyword k)) told) (went (c .before .before .before .before .before .before) (ap (λ (k : Key). further (word (token.Keyword k))) told))) (sooner (on-step _ _ (c .before .before .before .before .before .before .before .before .iterate .ensures)) (rw (← (c .before .before .before .before .before .before .before .before .iterate .ensures)) (c .before .before .function .ensures)))
 
   pub same-length-10 : lts.Need-same-length-10 cs (at-keyword-at t) at-keyword-reads.Post
   same-length-10 c = search needs
 
   pub returns-11 : lts.Need-returns-11 cs (at-keyword-at t) at-keyword-reads.Post
-  unfolding kept match choose begun further
-  returns-11 c = let told = c .before .before .before .before .enum-told10 .given .1 in rw (c .before .before .before .before .before .before .before .before .before .before .before .pre .1 .1, told) (by-eq (need-met _ _ _ (ap not (⊎-elim (λ j. sym (j .1 .ensures) ∙ j .2 .left) (λ j. absurd (false≢true (sym (j .left) ∙ c .before .before .before .before .before .before .before .goes-further .ensures ∙ ap (λ (k : Key). further (word (token.Keyword k))) told))) (c .before .before .before .before .before .before .if1 .came)))) (c .before .before .for-loop .ensures))
+  unfolding further
+  returns-11 c = let told = c .before .before .before .before .enum-told10 .given .1 in by-eq (on (c .before .before .before .before .before .before .before .before .before .before .before .args .tokens .now) (expression (c .before .before .before .before .before .before .before .before .before .before .before .args .tokens .now) (c .before .before .before .before .before .before .before .before .before .before .before .args .less)) (statement (c .before .before .before .before .before .before .before .before .before .before .before .args .tokens .now) (c .before .before .before .before .before .before .before .before .before .before .before .args .less)) _ _ _ (at-for (c .before .before .before .before .before .before .before .before .before .before .before .args .tokens .now) (expression (c .before .before .before .before .before .before .before .before .before .before .before .args .tokens .now) (c .before .before .before .before .before .before .before .before .before .before .before .args .less)) (statement (c .before .before .before .before .before .before .before .before .before .before .before .args .tokens .now) (c .before .before .before .before .before .before .before .before .before .before .before .args .less)) _ _) (c .before .before .before .before .before .before .before .before .before .before .before .pre .1 .1 ∙ ap (λ (k : Key). word (token.Keyword k)) told) (went (c .before .before .before .before .before .before) (ap (λ (k : Key). further (word (token.Keyword k))) told))) (c .before .before .for-loop .ensures)
 
   pub same-length-11 : lts.Need-same-length-11 cs (at-keyword-at t) at-keyword-reads.Post
   same-length-11 c = search needs
 
   pub returns-12 : lts.Need-returns-12 cs (at-keyword-at t) at-keyword-reads.Post
-  unfolding kept match choose begun further throw around
-  returns-12 c = let told = c .before .before .before .before .enum-told11 .given .1 in rw (c .before .before .before .before .before .before .before .before .before .before .before .pre .1 .1, told) (by-eq (need-met _ _ _ (ap not (⊎-elim (λ j. sym (j .1 .ensures) ∙ j .2 .left) (λ j. absurd (false≢true (sym (j .left) ∙ c .before .before .before .before .before .before .before .goes-further .ensures ∙ ap (λ (k : Key). further (word (token.Keyword k))) told))) (c .before .before .before .before .before .before .if1 .came)))) (sooner (on-step _ _ (c .before .before .before .before .before .before .before .before .iterate .ensures)) (rw (← (c .before .before .before .before .before .before .before .before .iterate .ensures)) (c .before .before .around .ensures))))
+  unfolding further throw around
+  returns-12 c = let told = c .before .before .before .before .enum-told11 .given .1 in by-eq (on (c .before .before .before .before .before .before .before .before .before .before .before .args .tokens .now) (expression (c .before .before .before .before .before .before .before .before .before .before .before .args .tokens .now) (c .before .before .before .before .before .before .before .before .before .before .before .args .less)) (statement (c .before .before .before .before .before .before .before .before .before .before .before .args .tokens .now) (c .before .before .before .before .before .before .before .before .before .before .before .args .less)) _ _ _ (at-throw (c .before .before .before .before .before .before .before .before .before .before .before .args .tokens .now) (expression (c .before .before .before .before .before .before .before .before .before .before .before .args .tokens .now) (c .before .before .before .before .before .before .before .before .before .before .before .args .less)) (statement (c .before .before .before .before .before .before .before .before .before .before .before .args .tokens .now) (c .before .before .before .before .before .before .before .before .before .before .before .args .less)) _ _) (c .before .before .before .before .before .before .before .before .before .before .before .pre .1 .1 ∙ ap (λ (k : Key). word (token.Keyword k)) told) (went (c .before .before .before .before .before .before) (ap (λ (k : Key). further (word (token.Keyword k))) told))) (sooner (on-step _ _ (c .before .before .before .before .before .before .before .before .iterate .ensures)) (rw (← (c .before .before .before .before .before .before .before .before .iterate .ensures)) (c .before .before .around .ensures)))
 
   pub same-length-12 : lts.Need-same-length-12 cs (at-keyword-at t) at-keyword-reads.Post
   same-length-12 c = search needs
 
   pub returns-13 : lts.Need-returns-13 cs (at-keyword-at t) at-keyword-reads.Post
-  unfolding kept match choose begun further
-  returns-13 c = let told = c .before .before .before .before .enum-told12 .given .1 in rw (c .before .before .before .before .before .before .before .before .before .before .before .pre .1 .1, told) (by-eq (need-met _ _ _ (ap not (⊎-elim (λ j. sym (j .1 .ensures) ∙ j .2 .left) (λ j. absurd (false≢true (sym (j .left) ∙ c .before .before .before .before .before .before .before .goes-further .ensures ∙ ap (λ (k : Key). further (word (token.Keyword k))) told))) (c .before .before .before .before .before .before .if1 .came)))) (c .before .before .try-statement .ensures))
+  unfolding further
+  returns-13 c = let told = c .before .before .before .before .enum-told12 .given .1 in by-eq (on (c .before .before .before .before .before .before .before .before .before .before .before .args .tokens .now) (expression (c .before .before .before .before .before .before .before .before .before .before .before .args .tokens .now) (c .before .before .before .before .before .before .before .before .before .before .before .args .less)) (statement (c .before .before .before .before .before .before .before .before .before .before .before .args .tokens .now) (c .before .before .before .before .before .before .before .before .before .before .before .args .less)) _ _ _ (at-try (c .before .before .before .before .before .before .before .before .before .before .before .args .tokens .now) (expression (c .before .before .before .before .before .before .before .before .before .before .before .args .tokens .now) (c .before .before .before .before .before .before .before .before .before .before .before .args .less)) (statement (c .before .before .before .before .before .before .before .before .before .before .before .args .tokens .now) (c .before .before .before .before .before .before .before .before .before .before .before .args .less)) _ _) (c .before .before .before .before .before .before .before .before .before .before .before .pre .1 .1 ∙ ap (λ (k : Key). word (token.Keyword k)) told) (went (c .before .before .before .before .before .before) (ap (λ (k : Key). further (word (token.Keyword k))) told))) (c .before .before .try-statement .ensures)
 
   pub same-length-13 : lts.Need-same-length-13 cs (at-keyword-at t) at-keyword-reads.Post
   same-length-13 c = search needs
 
   pub returns-14 : lts.Need-returns-14 cs (at-keyword-at t) at-keyword-reads.Post
-  unfolding kept match choose begun further
-  returns-14 c = let told = c .before .before .before .before .enum-told13 .given .1 in rw (c .before .before .before .before .before .before .before .before .before .before .before .pre .1 .1, told) (by-eq (need-met _ _ _ (ap not (⊎-elim (λ j. sym (j .1 .ensures) ∙ j .2 .left) (λ j. absurd (false≢true (sym (j .left) ∙ c .before .before .before .before .before .before .before .goes-further .ensures ∙ ap (λ (k : Key). further (word (token.Keyword k))) told))) (c .before .before .before .before .before .before .if1 .came)))) (c .before .before .for-each .ensures))
+  unfolding further
+  returns-14 c = let told = c .before .before .before .before .enum-told13 .given .1 in by-eq (on (c .before .before .before .before .before .before .before .before .before .before .before .args .tokens .now) (expression (c .before .before .before .before .before .before .before .before .before .before .before .args .tokens .now) (c .before .before .before .before .before .before .before .before .before .before .before .args .less)) (statement (c .before .before .before .before .before .before .before .before .before .before .before .args .tokens .now) (c .before .before .before .before .before .before .before .before .before .before .before .args .less)) _ _ _ (at-foreach (c .before .before .before .before .before .before .before .before .before .before .before .args .tokens .now) (expression (c .before .before .before .before .before .before .before .before .before .before .before .args .tokens .now) (c .before .before .before .before .before .before .before .before .before .before .before .args .less)) (statement (c .before .before .before .before .before .before .before .before .before .before .before .args .tokens .now) (c .before .before .before .before .before .before .before .before .before .before .before .args .less)) _ _) (c .before .before .before .before .before .before .before .before .before .before .before .pre .1 .1 ∙ ap (λ (k : Key). word (token.Keyword k)) told) (went (c .before .before .before .before .before .before) (ap (λ (k : Key). further (word (token.Keyword k))) told))) (c .before .before .for-each .ensures)
 
   pub same-length-14 : lts.Need-same-length-14 cs (at-keyword-at t) at-keyword-reads.Post
   same-length-14 c = search needs

@@ -54,10 +54,10 @@ module _ (t : ℕ) where
   statement-requires c κs = (falls _ _ _ _ _ _ _ (c .before .before .before .before .before .before .before .pre .0) (le-trans (on-step _ _ (c .before .before .before .before .iterate .ensures)) (on-step _ _ (c .before .before .before .iterate2 .ensures))) (lit< tt), ready-step _ _ (c .before .before .before .iterate2 .ensures) (ready-step _ _ (c .before .before .before .before .iterate .ensures) (c .before .before .before .before .before .before .before .pre .1)))
 
   pub enum-known-r : lts.Need-enum-known-r cs (block-at t) block-reads.Post
-  enum-known-r c = search needs
+  enum-known-r c = c .match .keys1
 
   pub enum-told : lts.Need-enum-told cs (block-at t) block-reads.Post
-  enum-told c = search needs
+  enum-told c = c .match .keys2
 
   pub same-length-2 : lts.Need-same-length-2 cs (block-at t) block-reads.Post
   same-length-2 c = c .before .before .before .before .statement .kept .1 .0
@@ -76,10 +76,10 @@ module _ (t : ℕ) where
   )
 
   pub enum-known-q : lts.Need-enum-known-q cs (block-at t) block-reads.Post
-  enum-known-q c = search needs
+  enum-known-q c = c .match2 .keys1
 
   pub enum-told-2 : lts.Need-enum-told-2 cs (block-at t) block-reads.Post
-  enum-told-2 c = search needs
+  enum-told-2 c = c .match2 .keys2
 
   pub same-length-3 : lts.Need-same-length-3 cs (block-at t) block-reads.Post
   same-length-3 c = c .before .before .before .before .statements .kept .1 .0 ∙ c .before .before .before .before .before .before .before .before .before .before .before .before .statement .kept .1 .0

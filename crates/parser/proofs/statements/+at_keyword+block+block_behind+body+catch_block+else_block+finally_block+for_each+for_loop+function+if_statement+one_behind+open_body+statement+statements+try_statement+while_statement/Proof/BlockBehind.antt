@@ -7,7 +7,6 @@ use Rattle.grammar.specs.Statements.{statement, block}
 use Rattle.parser.proofs.Answers.{taken, TakenOf, bounded-tree, bounded-told}
 use Rattle.parser.proofs.Parts.{ready-lent, in-part, back-read, back-refused, back-same, part-length}
 use Rattle.parser.proofs.Moves.{falls, le-refl}
-use borrow.Author.Needs.{needs}
 use Rattle.parser.proofs.statements.block_behind.Reads as block-behind-reads
 use Rattle.parser.proofs.statements.block.Reads as block-reads
 use Rattle.parser.proofs.statements.+at_keyword+block+block_behind+body+catch_block+else_block+finally_block+for_each+for_loop+function+if_statement+one_behind+open_body+statement+statements+try_statement+while_statement.Lts-block_behind as lts
@@ -42,10 +41,10 @@ module _ (t : ℕ) where
   block-requires c κs = (falls _ _ _ _ _ _ _ (c .before .before .before .pre .0) (le-refl _) (lit< tt), ready-lent (c .before .before .before .args .rows) (c .before .before .before .pre .1 .0) (c .before .before .before .pre .1 .1))
 
   pub enum-known-r : lts.Need-enum-known-r cs (block-behind-at t) block-behind-reads.Post
-  enum-known-r c = search needs
+  enum-known-r c = c .match .keys1
 
   pub enum-told : lts.Need-enum-told cs (block-behind-at t) block-behind-reads.Post
-  enum-told c = search needs
+  enum-told c = c .match .keys2
 
   pub same-length : lts.Need-same-length cs (block-behind-at t) block-behind-reads.Post
   same-length c = back-same (c .before .before .before .before .before .before .before .before .args .rows) (c .before .before .before .before .before .before .before .before .args .pool .now) (c .before .before .before .before .block .last .1 .0) (c .before .before .before .before .block .kept .1 .0)

@@ -65,10 +65,10 @@ module _ (t : ℕ) where
   expression-requires c κs = ready-step _ _ (c .iterate .ensures) (c .before .before .before .before .pre .1)
 
   pub enum-known-r0 : lts.Need-enum-known-r0 cs (for-loop-at t) for-loop-reads.Post
-  enum-known-r0 c = search needs
+  enum-known-r0 c = c .match .keys1
 
   pub enum-told : lts.Need-enum-told cs (for-loop-at t) for-loop-reads.Post
-  enum-told c = search needs
+  enum-told c = c .match .keys2
 
   pub same-length : lts.Need-same-length cs (for-loop-at t) for-loop-reads.Post
   same-length c = c .before .before .before .before .expression .kept .1 .0
@@ -80,10 +80,10 @@ module _ (t : ℕ) where
   behind-sign-requires c κs = (ready-same (c .before .before .before .before .before .before .before .before .before .before .before .pre .1) (c .before .before .before .before .before .before .expression .kept .1 .0) (read-1 (c .before .before) .stands .within), front-le (read-1 (c .before .before) .stands .front))
 
   pub enum-known-r1 : lts.Need-enum-known-r1 cs (for-loop-at t) for-loop-reads.Post
-  enum-known-r1 c = search needs
+  enum-known-r1 c = c .match2 .keys1
 
   pub enum-told-2 : lts.Need-enum-told-2 cs (for-loop-at t) for-loop-reads.Post
-  enum-told-2 c = search needs
+  enum-told-2 c = c .match2 .keys2
 
   pub same-length-2 : lts.Need-same-length-2 cs (for-loop-at t) for-loop-reads.Post
   same-length-2 c = c .before .before .before .before .behind-sign .kept .1 .0 ∙ c .before .before .before .before .before .before .before .before .before .before .before .expression .kept .1 .0
@@ -96,10 +96,10 @@ module _ (t : ℕ) where
       (falls _ _ _ _ _ _ _ (c .before .before .before .before .before .before .before .before .before .before .before .before .before .before .before .before .before .before .pre .0) (le-trans (on-step _ _ (c .before .before .before .before .before .before .before .before .before .before .before .before .before .before .iterate .ensures)) (read-2 (c .before .before) .stands .on)) (lit< tt), (ready-same (c .before .before .before .before .before .before .before .before .before .before .before .before .before .before .before .before .before .before .pre .1) (c .before .before .before .before .before .before .behind-sign .kept .1 .0 ∙ c .before .before .before .before .before .before .before .before .before .before .before .before .before .expression .kept .1 .0) (read-2 (c .before .before) .stands .within), front-le (read-2 (c .before .before) .stands .front)))
 
   pub enum-known-r2 : lts.Need-enum-known-r2 cs (for-loop-at t) for-loop-reads.Post
-  enum-known-r2 c = search needs
+  enum-known-r2 c = c .match3 .keys1
 
   pub enum-told-3 : lts.Need-enum-told-3 cs (for-loop-at t) for-loop-reads.Post
-  enum-told-3 c = search needs
+  enum-told-3 c = c .match3 .keys2
 
   pub same-length-3 : lts.Need-same-length-3 cs (for-loop-at t) for-loop-reads.Post
   same-length-3 c = c .before .before .before .before .body .kept .1 .0 ∙ c .before .before .before .before .before .before .before .before .before .before .before .behind-sign .kept .1 .0 ∙ c .before .before .before .before .before .before .before .before .before .before .before .before .before .before .before .before .before .before .expression .kept .1 .0

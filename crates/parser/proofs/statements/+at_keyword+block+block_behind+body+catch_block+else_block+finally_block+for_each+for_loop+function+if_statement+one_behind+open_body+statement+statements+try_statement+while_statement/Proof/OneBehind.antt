@@ -7,7 +7,6 @@ use Rattle.parser.proofs.Answers.{taken, TakenOf, bounded-tree, bounded
 use Rattle.parser.proofs.Ends.{not-at-end, begun-told}
 use Rattle.parser.proofs.Parts.{ready-lent, in-part, back-read, back-refused, back-same, part-length}
 use Rattle.parser.proofs.Moves.{falls, le-refl}
-use borrow.Author.Needs.{needs}
 use Rattle.parser.proofs.statements.one_behind.Reads as one-behind-reads
 use Rattle.parser.proofs.statements.statement.Reads as statement-reads
 use Rattle.parser.proofs.statements.+at_keyword+block+block_behind+body+catch_block+else_block+finally_block+for_each+for_loop+function+if_statement+one_behind+open_body+statement+statements+try_statement+while_statement.Lts-one_behind as lts
@@ -42,10 +41,10 @@ module _ (t : ℕ) where
   statement-requires c κs = (falls _ _ _ _ _ _ _ (c .before .before .before .pre .0) (le-refl _) (lit< tt), ready-lent (c .before .before .before .args .rows) (c .before .before .before .pre .1 .0) (c .before .before .before .pre .1 .1))
 
   pub enum-known-r : lts.Need-enum-known-r cs (one-behind-at t) one-behind-reads.Post
-  enum-known-r c = search needs
+  enum-known-r c = c .match .keys1
 
   pub enum-told : lts.Need-enum-told cs (one-behind-at t) one-behind-reads.Post
-  enum-told c = search needs
+  enum-told c = c .match .keys2
 
   pub same-length : lts.Need-same-length cs (one-behind-at t) one-behind-reads.Post
   same-length c = back-same (c .before .before .before .before .before .before .before .before .args .rows) (c .before .before .before .before .before .before .before .before .args .pool .now) (c .before .before .before .before .statement .last .1 .0) (c .before .before .before .before .statement .kept .1 .0)

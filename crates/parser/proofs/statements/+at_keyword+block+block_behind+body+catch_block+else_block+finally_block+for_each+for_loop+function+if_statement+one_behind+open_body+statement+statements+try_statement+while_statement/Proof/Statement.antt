@@ -39,10 +39,10 @@ module _ (t : ℕ) where
   current-requires c κs = search needs
 
   pub enum-told : lts.Need-enum-told cs (statement-at t) statement-reads.Post
-  enum-told c = search needs
+  enum-told c = c .match .keys1
 
   pub enum-known-t : lts.Need-enum-known-t cs (statement-at t) statement-reads.Post
-  enum-known-t c = search needs
+  enum-known-t c = c .match .keys2
 
   pub at-keyword-requires : lts.Need-at-keyword-requires cs (statement-at t) statement-reads.Post
   at-keyword-requires c κs = (omega (arith, c .before .before .before .before .before .before .before .before .pre .0, c .before .before .before .before .before .if1 .left), (c .before .before .before .before .before .before .before .before .pre .1, word-of (c .before .before .before .before .before .before .before .before .pre .1) (c .before .before .before .before .current .ensures) ∙ ap word (c .before .before .t .given .1)))

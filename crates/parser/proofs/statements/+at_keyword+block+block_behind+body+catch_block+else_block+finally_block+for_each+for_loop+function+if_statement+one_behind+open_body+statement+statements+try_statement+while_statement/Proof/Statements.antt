@@ -80,10 +80,10 @@ module _ (t : ℕ) where
       (falls _ _ _ _ _ _ _ (c .before .before .before .before .before .before .before .before .pre .0) (c .before .before .before .before .before .loop .inv .on) (lit< tt), (ready-same (c .before .before .before .before .before .before .before .before .pre .1 .0) (c .before .before .before .before .before .loop .inv .same) (c .before .before .before .before .before .loop .inv .within), c .before .before .before .before .before .loop .inv .fit))
 
   pub enum-known-r : lts.Need-enum-known-r cs (statements-at t) statements-reads.Post Inv-loop μ-loop
-  enum-known-r c = search needs
+  enum-known-r c = c .match .keys1
 
   pub enum-told : lts.Need-enum-told cs (statements-at t) statements-reads.Post Inv-loop μ-loop
-  enum-told c = search needs
+  enum-told c = c .match .keys2
 
   pub same-length : lts.Need-same-length cs (statements-at t) statements-reads.Post Inv-loop μ-loop
   same-length c = c .before .before .before .before .one-behind .kept .1 .0 ∙ c .before .before .before .before .before .before .before .before .before .before .loop .inv .same

@@ -15,7 +15,6 @@ use Rattle.parser.specs.Contracts.{behind-sign, braced}
 use Rattle.parser.proofs.Answers.{at-once, taken, TakenOf, by-eq, Starts, goes, pass-on}
 use Rattle.parser.proofs.Bodies.{sign-then, braced-then}
 use Rattle.parser.proofs.Moves.{falls, fits-same, front-le, le-refl, ready-same, small}
-use borrow.Author.Needs.{needs}
 use Rattle.parser.proofs.simple.behind_sign.Reads as behind-sign-reads
 use Rattle.parser.proofs.statements.catch_block.Reads as catch-block-reads
 use Rattle.parser.proofs.statements.finally_block.Reads as finally-block-reads
@@ -70,10 +69,10 @@ module _ (t : ℕ) where
   catch-block-requires c κs = (falls _ _ _ _ _ _ _ (c .before .before .before .pre .0) (le-refl _) (lit< tt), (c .before .before .before .pre .1, omega arith))
 
   pub enum-known-r0 : lts.Need-enum-known-r0 cs (try-statement-at t) try-statement-reads.Post
-  enum-known-r0 c = search needs
+  enum-known-r0 c = c .match .keys1
 
   pub enum-told : lts.Need-enum-told cs (try-statement-at t) try-statement-reads.Post
-  enum-told c = search needs
+  enum-told c = c .match .keys2
 
   pub same-length : lts.Need-same-length cs (try-statement-at t) try-statement-reads.Post
   same-length c = c .before .before .before .before .catch-block .kept .1 .0
@@ -85,10 +84,10 @@ module _ (t : ℕ) where
   behind-sign-requires c κs = (ready-same (c .before .before .before .before .before .before .before .before .before .before .pre .1) (c .before .before .before .before .before .before .catch-block .kept .1 .0) (read-1 (c .before .before) .stands .within), front-le (read-1 (c .before .before) .stands .front))
 
   pub enum-known-r1 : lts.Need-enum-known-r1 cs (try-statement-at t) try-statement-reads.Post
-  enum-known-r1 c = search needs
+  enum-known-r1 c = c .match2 .keys1
 
   pub enum-told-2 : lts.Need-enum-told-2 cs (try-statement-at t) try-statement-reads.Post
-  enum-told-2 c = search needs
+  enum-told-2 c = c .match2 .keys2
 
   pub same-length-2 : lts.Need-same-length-2 cs (try-statement-at t) try-statement-reads.Post
   same-length-2 c = c .before .before .before .before .behind-sign .kept .1 .0 ∙ c .before .before .before .before .before .before .before .before .before .before .before .catch-block .kept .1 .0
@@ -100,10 +99,10 @@ module _ (t : ℕ) where
   catch-block-requires-2 c κs = (falls _ _ _ _ _ _ _ (c .before .before .before .before .before .before .before .before .before .before .before .before .before .before .before .before .before .pre .0) (read-2 (c .before .before) .stands .on) (lit< tt), (ready-same (c .before .before .before .before .before .before .before .before .before .before .before .before .before .before .before .before .before .pre .1) (c .before .before .before .before .before .before .behind-sign .kept .1 .0 ∙ c .before .before .before .before .before .before .before .before .before .before .before .before .before .catch-block .kept .1 .0) (read-2 (c .before .before) .stands .within), front-le (read-2 (c .before .before) .stands .front)))
 
   pub enum-known-r2 : lts.Need-enum-known-r2 cs (try-statement-at t) try-statement-reads.Post
-  enum-known-r2 c = search needs
+  enum-known-r2 c = c .match3 .keys1
 
   pub enum-told-3 : lts.Need-enum-told-3 cs (try-statement-at t) try-statement-reads.Post
-  enum-told-3 c = search needs
+  enum-told-3 c = c .match3 .keys2
 
   pub same-length-3 : lts.Need-same-length-3 cs (try-statement-at t) try-statement-reads.Post
   same-length-3 c = c .before .before .before .before .catch-block2 .kept .1 .0 ∙ c .before .before .before .before .before .before .before .before .before .before .before .behind-sign .kept .1 .0 ∙ c .before .before .before .before .before .before .before .before .before .before .before .before .before .before .before .before .before .before .catch-block .kept .1 .0
@@ -116,10 +115,10 @@ module _ (t : ℕ) where
       (falls _ _ _ _ _ _ _ (c .before .before .before .before .before .before .before .before .before .before .before .before .before .before .before .before .before .before .before .before .before .before .before .before .pre .0) (read-3 (c .before .before) .stands .on) (lit< tt), (ready-same (c .before .before .before .before .before .before .before .before .before .before .before .before .before .before .before .before .before .before .before .before .before .before .before .before .pre .1) (c .before .before .before .before .before .before .catch-block2 .kept .1 .0 ∙ c .before .before .before .before .before .before .before .before .before .before .before .before .before .behind-sign .kept .1 .0 ∙ c .before .before .before .before .before .before .before .before .before .before .before .before .before .before .before .before .before .before .before .before .catch-block .kept .1 .0) (read-3 (c .before .before) .stands .within), front-le (read-3 (c .before .before) .stands .front)))
 
   pub enum-known-r3 : lts.Need-enum-known-r3 cs (try-statement-at t) try-statement-reads.Post
-  enum-known-r3 c = search needs
+  enum-known-r3 c = c .match4 .keys1
 
   pub enum-told-4 : lts.Need-enum-told-4 cs (try-statement-at t) try-statement-reads.Post
-  enum-told-4 c = search needs
+  enum-told-4 c = c .match4 .keys2
 
   pub same-length-4 : lts.Need-same-length-4 cs (try-statement-at t) try-statement-reads.Post
   same-length-4 c = c .before .before .before .before .finally-block .kept .1 .0 ∙ c .before .before .before .before .before .before .before .before .before .before .before .catch-block2 .kept .1 .0 ∙ c .before .before .before .before .before .before .before .before .before .before .before .before .before .before .before .before .before .before .behind-sign .kept .1 .0 ∙ c .before .before .before .before .before .before .before .before .before .before .before .before .before .before .before .before .before .before .before .before .before .before .before .before .before .catch-block .kept .1 .0
