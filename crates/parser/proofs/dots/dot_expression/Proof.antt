@@ -18,6 +18,9 @@ use Rattle.parser.proofs.dots.dot_expression.Tie as tie
 read-1 : (c : tie.After-r) → TakenOf (c .before .before .before .before .leaf .ensures (c .before .before .before .before .before .before .before .before .args .tokens .now) (c .before .before .before .before .before .before .before .before .pre .0 .within)) (c .r .given .1)
 read-1 c = taken (c .before .before .before .before .leaf .ensures (c .before .before .before .before .before .before .before .before .args .tokens .now) (c .before .before .before .before .before .before .before .before .pre .0 .within)) (c .r .given .1)
 
+read-2 : (c : tie.After-q) → TakenOf (back-read (read-1 (c .before .before .before .before .before .before .before .before .before) .stands) (in-part (dots (c .before .before .before .before .before .before .before .before .before .before .before .before .before .before .before .before .before .args .tokens .now) turns nil (c .before .before .before .before .before .before .before .before .before .r .given .0 .1 .1 .0)) (read-1 (c .before .before .before .before .before .before .before .before .before) .stands) (c .before .before .before .before .dots .ensures)) (c .q .given .1)) refl
+read-2 c = taken (back-read (read-1 (c .before .before .before .before .before .before .before .before .before) .stands) (in-part (dots (c .before .before .before .before .before .before .before .before .before .before .before .before .before .before .before .before .before .args .tokens .now) turns nil (c .before .before .before .before .before .before .before .before .before .r .given .0 .1 .1 .0)) (read-1 (c .before .before .before .before .before .before .before .before .before) .stands) (c .before .before .before .before .dots .ensures)) (c .q .given .1)) refl
+
 leaf-requires : tie.Need-leaf-requires
 leaf-requires c κs = (c .before .before .before .pre .0 .fits, small (c .before .before .before .pre .0))
 
@@ -81,7 +84,7 @@ returns-3 c =
     by-eq (then-eq _ (need-met _ _ _ (eq-eqb _ _ (c .before .before .before .before .before .before .before .before .before .before .before .before .before .before .before .before .before .pre .1))) ∙ then-read _ (read-1 (c .before .before .before .before .before .before .before .before .before) .eq) ∙ choose-true _ _ (sym (c .before .before .before .before .before .before .before .next-symbol-is .ensures) ∙ not-false _ (c .before .before .before .before .before .before .if1 .left))) (pass _ (in-part (dots (c .before .before .before .before .before .before .before .before .before .before .before .before .before .before .before .before .before .args .tokens .now) turns nil (c .before .before .before .before .before .before .before .before .before .r .given .0 .1 .1 .0)) (read-1 (c .before .before .before .before .before .before .before .before .before) .stands) (c .before .before .before .before .dots .ensures)) (c .enum-told2 .given .1))
 
 add-put-row : tie.Need-add-put-row
-add-put-row c = let q = taken (back-read (read-1 (c .before .before .before .before .before .before .before .before .before .before .before) .stands) (in-part (dots (c .before .before .before .before .before .before .before .before .before .before .before .before .before .before .before .before .before .before .before .args .tokens .now) turns nil (c .before .before .before .before .before .before .before .before .before .before .before .r .given .0 .1 .1 .0)) (read-1 (c .before .before .before .before .before .before .before .before .before .before .before) .stands) (c .before .before .before .before .before .before .dots .ensures)) (c .before .before .q .given .1)) refl in omega (arith, q .stands .front .fit, c .before .before .before .before .before .before .before .before .before .before .before .before .before .before .before .before .before .before .before .pre .0 .fits)
+add-put-row c = omega (arith, read-2 (c .before .before) .stands .front .fit, c .before .before .before .before .before .before .before .before .before .before .before .before .before .before .before .before .before .before .before .pre .0 .fits)
 
 put-row-requires : tie.Need-put-row-requires
 put-row-requires c κs = (fits-same _ _ _ (c .before .before .before .before .before .before .before .before .before .before .before .before .before .before .before .before .before .before .before .pre .0 .fits) (back-same (c .before .before .before .before .before .before .before .before .before .before .before .r .given .0 .0) (c .before .before .before .before .before .before .before .before .before .before .before .before .before .before .before .leaf .last .0) (c .before .before .before .before .before .before .dots .last .1 .0) (c .before .before .before .before .before .before .dots .kept .1 .0) ∙ c .before .before .before .before .before .before .before .before .before .before .before .before .before .before .before .leaf .kept .0), small (c .before .before .before .before .before .before .before .before .before .before .before .before .before .before .before .before .before .before .before .pre .0))
@@ -92,9 +95,8 @@ same-length-4 c = c .before .before .put-row .kept .0 ∙ back-same (c .before .
 returns-4 : tie.Need-returns-4
 unfolding dot-expression get-identifier is
 returns-4 c =
-    let q = taken (back-read (read-1 (c .before .before .before .before .before .before .before .before .before .before .before .before .before .before) .stands) (in-part (dots (c .before .before .before .before .before .before .before .before .before .before .before .before .before .before .before .before .before .before .before .before .before .before .args .tokens .now) turns nil (c .before .before .before .before .before .before .before .before .before .before .before .before .before .before .r .given .0 .1 .1 .0)) (read-1 (c .before .before .before .before .before .before .before .before .before .before .before .before .before .before) .stands) (c .before .before .before .before .before .before .before .before .before .dots .ensures)) (c .before .before .before .before .before .q .given .1)) refl in
-    by-eq (then-eq _ (need-met _ _ _ (eq-eqb _ _ (c .before .before .before .before .before .before .before .before .before .before .before .before .before .before .before .before .before .before .before .before .before .before .pre .1))) ∙ then-read _ (read-1 (c .before .before .before .before .before .before .before .before .before .before .before .before .before .before) .eq) ∙ choose-true _ _ (sym (c .before .before .before .before .before .before .before .before .before .before .before .before .next-symbol-is .ensures) ∙ not-false _ (c .before .before .before .before .before .before .before .before .before .before .before .if1 .left)) ∙ then-read _ (q .eq))
-    (c .before .before .put-row .ensures (c .before .before .before .before .before .before .before .before .before .before .before .before .before .before .before .before .before .before .before .before .before .before .args .tokens .now) (q .stands .within) .1 _ [] _ _ _ _ (q .stands) (record { few = tt; root = of-node; refs = (read-1 (c .before .before .before .before .before .before .before .before .before .before .before .before .before .before) .head, q .head, refl, refl) }))
+    by-eq (then-eq _ (need-met _ _ _ (eq-eqb _ _ (c .before .before .before .before .before .before .before .before .before .before .before .before .before .before .before .before .before .before .before .before .before .before .pre .1))) ∙ then-read _ (read-1 (c .before .before .before .before .before .before .before .before .before .before .before .before .before .before) .eq) ∙ choose-true _ _ (sym (c .before .before .before .before .before .before .before .before .before .before .before .before .next-symbol-is .ensures) ∙ not-false _ (c .before .before .before .before .before .before .before .before .before .before .before .if1 .left)) ∙ then-read _ (read-2 (c .before .before .before .before .before) .eq))
+    (c .before .before .put-row .ensures (c .before .before .before .before .before .before .before .before .before .before .before .before .before .before .before .before .before .before .before .before .before .before .args .tokens .now) (read-2 (c .before .before .before .before .before) .stands .within) .1 _ [] _ _ _ _ (read-2 (c .before .before .before .before .before) .stands) (record { few = tt; root = of-node; refs = (read-1 (c .before .before .before .before .before .before .before .before .before .before .before .before .before .before) .head, read-2 (c .before .before .before .before .before) .head, refl, refl) }))
 
 pub dot-expression-spec : {M : Type 1} → statement M
 dot-expression-spec =

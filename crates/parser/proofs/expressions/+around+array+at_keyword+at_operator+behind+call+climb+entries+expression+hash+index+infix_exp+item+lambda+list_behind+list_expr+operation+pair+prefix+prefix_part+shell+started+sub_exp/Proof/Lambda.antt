@@ -1,14 +1,18 @@
 -- `lambda` meets its contract: parameters, an arrow, and the body behind it.
 use lib.Dec.{lit<}
-use mathlib.Core.Path.{refl, sym, ap, _∙_}
-use mathlib.Core.Bool.{not}
-use mathlib.Core.List.{[]}
+use mathlib.Core.Path.{_≡_, refl, sym, ap, _∙_}
+use mathlib.Core.Bool.{true, false, not}
+use mathlib.Core.List.{List, []}
 use Prim.Native.Nat.{ℕ}
 use borrow.Author.Tests.{not-true, not-false}
-use Rattle.grammar.specs.Expressions.{lambda}
+use Rattle.grammar.specs.Words.{SSemiColon, SImpl, Zero, step, next-is}
+use Rattle.grammar.specs.Tree.{Tree, Trees}
+use Rattle.grammar.specs.Tree as tree
+use Rattle.grammar.specs.Parsed.{refused, read, build, ExpectedArrow}
+use Rattle.grammar.specs.Expressions.{Rec, expression, list-expr, lambda}
 use Rattle.parser.specs.Contracts.{item}
 use Rattle.parser.specs.Meets.{of-node}
-use Rattle.parser.proofs.Answers.{taken, TakenOf, pass, by-eq, refuses, then-read, need-met, need-failed}
+use Rattle.parser.proofs.Answers.{taken, TakenOf, by-eq, refuses, need-met, need-failed, Starts, starts-at, starts-after, goes, pass-on}
 use Rattle.parser.proofs.Moves.{falls, fits-same, front-le, le-refl, le-trans, on-step, ready-same, ready-step, small, stands-step}
 use borrow.Author.Needs.{needs}
 use Rattle.parser.proofs.expressions.behind.Reads as behind-reads
@@ -19,6 +23,26 @@ use Rattle.words.proofs.next_symbol_is.Reads as next-symbol-is-reads
 use Rattle.parser.proofs.part.put_row.Reads as put-row-reads
 use Rattle.parser.proofs.expressions.+around+array+at_keyword+at_operator+behind+call+climb+entries+expression+hash+index+infix_exp+item+lambda+list_behind+list_expr+operation+pair+prefix+prefix_part+shell+started+sub_exp.Lts-lambda as lts
 use Rattle.parser.proofs.expressions.+around+array+at_keyword+at_operator+behind+call+climb+entries+expression+hash+index+infix_exp+item+lambda+list_behind+list_expr+operation+pair+prefix+prefix_part+shell+started+sub_exp.Proof.Measures.{lambda-at, behind-below, list-expr-below}
+
+-- The definition, one reading after another.
+module _ (ts : List ℕ) (rec : Rec) (start room : ℕ) (more : next-is ts start SSemiColon ≡ false) (some : next-is ts start SImpl ≡ false) where
+  unfoldable first : Starts (lambda ts rec start room) (list-expr ts rec start room)
+  unfolding lambda
+  first = record { rest = _; eq = need-met _ _ _ (ap not more) ∙ need-met _ _ _ (ap not some) }
+
+  module _ {parameters : Trees} {at left : ℕ} (e : list-expr ts rec start room ≡ read parameters at left) where
+    stops : next-is ts at SImpl ≡ false → lambda ts rec start room ≡ refused ExpectedArrow at
+    unfolding first
+    stops n = goes first e ∙ need-failed _ _ _ n
+
+    module _ {c d : ℕ} (met : next-is ts at SImpl ≡ true) (i : c ≡ step ts at) (j : d ≡ step ts c) where
+      unfoldable second : Starts (lambda ts rec start room) (rec Zero d left)
+      unfolding first
+      second = starts-after (goes first e ∙ need-met _ _ _ met) (starts-at (λ (k : ℕ). rec Zero k left) _ (j ∙ ap (step ts) i))
+
+      ended : {body : Tree} {at′ left′ : ℕ} → rec Zero d left ≡ read body at′ left′ → lambda ts rec start room ≡ build (tree.lambda start parameters body) at′ left′
+      unfolding second
+      ended f = goes second f
 
 module _ (t : ℕ) where
   abbrev cs : lts.Claims
@@ -57,8 +81,7 @@ module _ (t : ℕ) where
   same-length c = c .before .before .before .before .list-expr .kept .1 .0
 
   pub returns-3 : lts.Need-returns-3 cs (lambda-at t) lambda-reads.Post
-  unfolding lambda
-  returns-3 c = by-eq (need-met _ _ _ (ap not (sym (c .before .before .before .before .before .before .before .before .before .next-symbol-is .ensures) ∙ c .before .before .before .before .before .before .before .before .if1 .left)) ∙ need-met _ _ _ (ap not (sym (c .before .before .before .before .before .before .before .next-symbol-is2 .ensures) ∙ c .before .before .before .before .before .before .if2 .left))) (pass _ (c .before .before .before .before .list-expr .ensures) (c .enum-told .given .1))
+  returns-3 c = pass-on (first (c .before .before .before .before .before .before .before .before .before .before .before .before .args .tokens .now) (expression (c .before .before .before .before .before .before .before .before .before .before .before .before .args .tokens .now) (c .before .before .before .before .before .before .before .before .before .before .before .before .args .less)) _ _ (sym (c .before .before .before .before .before .before .before .before .before .next-symbol-is .ensures) ∙ c .before .before .before .before .before .before .before .before .if1 .left) (sym (c .before .before .before .before .before .before .before .next-symbol-is2 .ensures) ∙ c .before .before .before .before .before .before .if2 .left)) (c .before .before .before .before .list-expr .ensures) (c .enum-told .given .1)
 
   pub next-symbol-is-requires-3 : lts.Need-next-symbol-is-requires-3 cs (lambda-at t) lambda-reads.Post
   next-symbol-is-requires-3 c κs = search needs
@@ -67,8 +90,7 @@ module _ (t : ℕ) where
   same-length-2 c = c .before .before .before .before .before .before .before .list-expr .kept .1 .0
 
   pub returns-4 : lts.Need-returns-4 cs (lambda-at t) lambda-reads.Post
-  unfolding lambda
-  returns-4 c = refuses _ _ _ (need-met _ _ _ (ap not (sym (c .before .before .before .before .before .before .before .before .before .before .before .before .next-symbol-is .ensures) ∙ c .before .before .before .before .before .before .before .before .before .before .before .if1 .left)) ∙ need-met _ _ _ (ap not (sym (c .before .before .before .before .before .before .before .before .before .before .next-symbol-is2 .ensures) ∙ c .before .before .before .before .before .before .before .before .before .if2 .left)) ∙ then-read _ (read-1 (c .before .before .before) .eq) ∙ need-failed _ _ _ (sym (c .before .next-symbol-is3 .ensures) ∙ not-true _ (c .if3 .taken)))
+  returns-4 c = refuses _ _ _ (stops (c .before .before .before .before .before .before .before .before .before .before .before .before .before .before .before .args .tokens .now) (expression (c .before .before .before .before .before .before .before .before .before .before .before .before .before .before .before .args .tokens .now) (c .before .before .before .before .before .before .before .before .before .before .before .before .before .before .before .args .less)) _ _ (sym (c .before .before .before .before .before .before .before .before .before .before .before .before .next-symbol-is .ensures) ∙ c .before .before .before .before .before .before .before .before .before .before .before .if1 .left) (sym (c .before .before .before .before .before .before .before .before .before .before .next-symbol-is2 .ensures) ∙ c .before .before .before .before .before .before .before .before .before .if2 .left) (read-1 (c .before .before .before) .eq) (sym (c .before .next-symbol-is3 .ensures) ∙ not-true _ (c .if3 .taken)))
 
   pub iterate-requires : lts.Need-iterate-requires cs (lambda-at t) lambda-reads.Post
   iterate-requires c κs = search needs
@@ -92,8 +114,8 @@ module _ (t : ℕ) where
   same-length-3 c = c .before .before .before .before .behind .kept .1 .0 ∙ c .before .before .before .before .before .before .before .before .before .before .before .before .before .before .before .list-expr .kept .1 .0
 
   pub returns-5 : lts.Need-returns-5 cs (lambda-at t) lambda-reads.Post
-  unfolding lambda item
-  returns-5 c = by-eq (need-met _ _ _ (ap not (sym (c .before .before .before .before .before .before .before .before .before .before .before .before .before .before .before .before .before .before .before .before .next-symbol-is .ensures) ∙ c .before .before .before .before .before .before .before .before .before .before .before .before .before .before .before .before .before .before .before .if1 .left)) ∙ need-met _ _ _ (ap not (sym (c .before .before .before .before .before .before .before .before .before .before .before .before .before .before .before .before .before .before .next-symbol-is2 .ensures) ∙ c .before .before .before .before .before .before .before .before .before .before .before .before .before .before .before .before .before .if2 .left)) ∙ then-read _ (read-1 (c .before .before .before .before .before .before .before .before .before .before .before) .eq) ∙ need-met _ _ _ (sym (c .before .before .before .before .before .before .before .before .before .next-symbol-is3 .ensures) ∙ not-false _ (c .before .before .before .before .before .before .before .before .if3 .left))) (rw (← (c .before .before .before .before .before .before .before .iterate .ensures), ← (c .before .before .before .before .before .before .iterate2 .ensures)) (pass _ (c .before .before .before .before .behind .ensures .1 _ _ _ _ (stands-step _ _ (c .before .before .before .before .before .before .iterate2 .ensures) (stands-step _ _ (c .before .before .before .before .before .before .before .iterate .ensures) (read-1 (c .before .before .before .before .before .before .before .before .before .before .before) .stands)))) (c .enum-told2 .given .1)))
+  unfolding item
+  returns-5 c = pass-on (second (c .before .before .before .before .before .before .before .before .before .before .before .before .before .before .before .before .before .before .before .before .before .before .before .args .tokens .now) (expression (c .before .before .before .before .before .before .before .before .before .before .before .before .before .before .before .before .before .before .before .before .before .before .before .args .tokens .now) (c .before .before .before .before .before .before .before .before .before .before .before .before .before .before .before .before .before .before .before .before .before .before .before .args .less)) _ _ (sym (c .before .before .before .before .before .before .before .before .before .before .before .before .before .before .before .before .before .before .before .before .next-symbol-is .ensures) ∙ c .before .before .before .before .before .before .before .before .before .before .before .before .before .before .before .before .before .before .before .if1 .left) (sym (c .before .before .before .before .before .before .before .before .before .before .before .before .before .before .before .before .before .before .next-symbol-is2 .ensures) ∙ c .before .before .before .before .before .before .before .before .before .before .before .before .before .before .before .before .before .if2 .left) (read-1 (c .before .before .before .before .before .before .before .before .before .before .before) .eq) (sym (c .before .before .before .before .before .before .before .before .before .next-symbol-is3 .ensures) ∙ not-false _ (c .before .before .before .before .before .before .before .before .if3 .left)) (c .before .before .before .before .before .before .before .iterate .ensures) (c .before .before .before .before .before .before .iterate2 .ensures)) (c .before .before .before .before .behind .ensures .1 _ _ _ _ (stands-step _ _ (c .before .before .before .before .before .before .iterate2 .ensures) (stands-step _ _ (c .before .before .before .before .before .before .before .iterate .ensures) (read-1 (c .before .before .before .before .before .before .before .before .before .before .before) .stands)))) (c .enum-told2 .given .1)
 
   pub put-row-requires : lts.Need-put-row-requires cs (lambda-at t) lambda-reads.Post
   put-row-requires c κs = (fits-same _ _ _ (c .before .before .before .before .before .before .before .before .before .before .before .before .before .before .before .before .before .before .before .before .before .before .before .before .before .pre .1 .fits) (c .before .before .before .before .before .before .behind .kept .1 .0 ∙ c .before .before .before .before .before .before .before .before .before .before .before .before .before .before .before .before .before .list-expr .kept .1 .0), small (c .before .before .before .before .before .before .before .before .before .before .before .before .before .before .before .before .before .before .before .before .before .before .before .before .before .pre .1))
@@ -102,7 +124,7 @@ module _ (t : ℕ) where
   same-length-4 c = c .before .before .put-row .kept .0 ∙ c .before .before .before .before .before .before .before .before .before .behind .kept .1 .0 ∙ c .before .before .before .before .before .before .before .before .before .before .before .before .before .before .before .before .before .before .before .before .list-expr .kept .1 .0
 
   pub returns-6 : lts.Need-returns-6 cs (lambda-at t) lambda-reads.Post
-  unfolding lambda item
+  unfolding item
   returns-6 c =
-      by-eq (need-met _ _ _ (ap not (sym (c .before .before .before .before .before .before .before .before .before .before .before .before .before .before .before .before .before .before .before .before .before .before .before .before .before .next-symbol-is .ensures) ∙ c .before .before .before .before .before .before .before .before .before .before .before .before .before .before .before .before .before .before .before .before .before .before .before .before .if1 .left)) ∙ need-met _ _ _ (ap not (sym (c .before .before .before .before .before .before .before .before .before .before .before .before .before .before .before .before .before .before .before .before .before .before .before .next-symbol-is2 .ensures) ∙ c .before .before .before .before .before .before .before .before .before .before .before .before .before .before .before .before .before .before .before .before .before .before .if2 .left)) ∙ then-read _ (read-1 (c .before .before .before .before .before .before .before .before .before .before .before .before .before .before .before .before) .eq) ∙ need-met _ _ _ (sym (c .before .before .before .before .before .before .before .before .before .before .before .before .before .before .next-symbol-is3 .ensures) ∙ not-false _ (c .before .before .before .before .before .before .before .before .before .before .before .before .before .if3 .left))) (rw (← (c .before .before .before .before .before .before .before .before .before .before .before .before .iterate .ensures), ← (c .before .before .before .before .before .before .before .before .before .before .before .iterate2 .ensures)) (by-eq (then-read _ (read-2 (c .before .before .before .before .before) .eq))
-      (c .before .before .put-row .ensures (c .before .before .before .before .before .before .before .before .before .before .before .before .before .before .before .before .before .before .before .before .before .before .before .before .before .before .before .before .args .tokens .now) (read-2 (c .before .before .before .before .before) .stands .within) .1 _ [] _ _ _ _ (read-2 (c .before .before .before .before .before) .stands) (record { few = tt; root = of-node; refs = (read-1 (c .before .before .before .before .before .before .before .before .before .before .before .before .before .before .before .before) .head, read-2 (c .before .before .before .before .before) .head, refl, refl) }))))
+      by-eq (ended (c .before .before .before .before .before .before .before .before .before .before .before .before .before .before .before .before .before .before .before .before .before .before .before .before .before .before .before .before .args .tokens .now) (expression (c .before .before .before .before .before .before .before .before .before .before .before .before .before .before .before .before .before .before .before .before .before .before .before .before .before .before .before .before .args .tokens .now) (c .before .before .before .before .before .before .before .before .before .before .before .before .before .before .before .before .before .before .before .before .before .before .before .before .before .before .before .before .args .less)) _ _ (sym (c .before .before .before .before .before .before .before .before .before .before .before .before .before .before .before .before .before .before .before .before .before .before .before .before .before .next-symbol-is .ensures) ∙ c .before .before .before .before .before .before .before .before .before .before .before .before .before .before .before .before .before .before .before .before .before .before .before .before .if1 .left) (sym (c .before .before .before .before .before .before .before .before .before .before .before .before .before .before .before .before .before .before .before .before .before .before .before .next-symbol-is2 .ensures) ∙ c .before .before .before .before .before .before .before .before .before .before .before .before .before .before .before .before .before .before .before .before .before .before .if2 .left) (read-1 (c .before .before .before .before .before .before .before .before .before .before .before .before .before .before .before .before) .eq) (sym (c .before .before .before .before .before .before .before .before .before .before .before .before .before .before .next-symbol-is3 .ensures) ∙ not-false _ (c .before .before .before .before .before .before .before .before .before .before .before .before .before .if3 .left)) (c .before .before .before .before .before .before .before .before .before .before .before .before .iterate .ensures) (c .before .before .before .before .before .before .before .before .before .before .before .iterate2 .ensures) (read-2 (c .before .before .before .before .before) .eq))
+      (c .before .before .put-row .ensures (c .before .before .before .before .before .before .before .before .before .before .before .before .before .before .before .before .before .before .before .before .before .before .before .before .before .before .before .before .args .tokens .now) (read-2 (c .before .before .before .before .before) .stands .within) .1 _ [] _ _ _ _ (read-2 (c .before .before .before .before .before) .stands) (record { few = tt; root = of-node; refs = (read-1 (c .before .before .before .before .before .before .before .before .before .before .before .before .before .before .before .before) .head, read-2 (c .before .before .before .before .before) .head, refl, refl) }))

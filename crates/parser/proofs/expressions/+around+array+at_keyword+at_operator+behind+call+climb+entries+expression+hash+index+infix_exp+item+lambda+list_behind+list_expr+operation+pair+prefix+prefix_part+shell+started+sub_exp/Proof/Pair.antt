@@ -1,15 +1,19 @@
 -- `pair` meets its contract: the key, a colon, and the value behind it.
 use lib.Dec.{lit<}
-use mathlib.Core.Path.{refl, sym, _∙_}
-use mathlib.Core.List.{[]}
+use mathlib.Core.Path.{_≡_, refl, sym, ap, _∙_}
+use mathlib.Core.Bool.{true, false}
+use mathlib.Core.List.{List, []}
 use Prim.Native.Nat.{ℕ}
 use native.Mathlib.Omega.{arith}
 use borrow.Author.Tests.{not-true, not-false}
-use Rattle.grammar.specs.Words.{SColon}
-use Rattle.grammar.specs.Expressions.{pair}
+use Rattle.grammar.specs.Words.{SColon, Zero, step, next-is}
+use Rattle.grammar.specs.Tree.{Tree}
+use Rattle.grammar.specs.Tree as tree
+use Rattle.grammar.specs.Parsed.{refused, read, build, ExpectedColon}
+use Rattle.grammar.specs.Expressions.{Rec, expression, pair}
 use Rattle.parser.specs.Contracts.{item}
 use Rattle.parser.specs.Meets.{of-node}
-use Rattle.parser.proofs.Answers.{taken, TakenOf, pass, by-eq, refuses, then-read, need-met, need-failed}
+use Rattle.parser.proofs.Answers.{taken, TakenOf, by-eq, refuses, need-met, need-failed, Starts, starts-at, starts-after, goes, pass-on}
 use Rattle.parser.proofs.Moves.{falls, fits-same, front-le, le-refl, moves-next, on-step, ready-same, ready-step, stands-step, within-step}
 use borrow.Author.Needs.{needs}
 use Rattle.parser.proofs.expressions.behind.Reads as behind-reads
@@ -20,6 +24,26 @@ use Rattle.parser.proofs.expressions.pair.Reads as pair-reads
 use Rattle.parser.proofs.part.put_row.Reads as put-row-reads
 use Rattle.parser.proofs.expressions.+around+array+at_keyword+at_operator+behind+call+climb+entries+expression+hash+index+infix_exp+item+lambda+list_behind+list_expr+operation+pair+prefix+prefix_part+shell+started+sub_exp.Lts-pair as lts
 use Rattle.parser.proofs.expressions.+around+array+at_keyword+at_operator+behind+call+climb+entries+expression+hash+index+infix_exp+item+lambda+list_behind+list_expr+operation+pair+prefix+prefix_part+shell+started+sub_exp.Proof.Measures.{pair-at, behind-below, expression-below}
+
+-- The definition, one reading after another.
+module _ (ts : List ℕ) (rec : Rec) (start room : ℕ) where
+  unfoldable first : Starts (pair ts rec start room) (rec Zero start room)
+  unfolding pair
+  first = record { rest = _; eq = refl }
+
+  module _ {key : Tree} {at left : ℕ} (e : rec Zero start room ≡ read key at left) where
+    stops : next-is ts at SColon ≡ false → pair ts rec start room ≡ refused ExpectedColon at
+    unfolding first
+    stops n = goes first e ∙ need-failed _ _ _ n
+
+    module _ {c d : ℕ} (met : next-is ts at SColon ≡ true) (i : c ≡ step ts at) (j : d ≡ step ts c) where
+      unfoldable second : Starts (pair ts rec start room) (rec Zero d left)
+      unfolding first
+      second = starts-after (goes first e ∙ need-met _ _ _ met) (starts-at (λ (k : ℕ). rec Zero k left) _ (j ∙ ap (step ts) i))
+
+      ended : {value : Tree} {end left′ : ℕ} → rec Zero d left ≡ read value end left′ → pair ts rec start room ≡ build (tree.pair c key value) end left′
+      unfolding second
+      ended {value} {end} {left′} f = goes second f ∙ ap (λ (k : ℕ). build (tree.pair k key value) end left′) (sym i)
 
 module _ (t : ℕ) where
   abbrev cs : lts.Claims
@@ -44,8 +68,7 @@ module _ (t : ℕ) where
   same-length c = c .before .before .before .before .expression .kept .1 .0
 
   pub returns : lts.Need-returns cs (pair-at t) pair-reads.Post
-  unfolding pair
-  returns c = pass _ (c .before .before .before .before .expression .ensures) (c .enum-told .given .1)
+  returns c = pass-on (first (c .before .before .before .before .before .before .before .before .args .tokens .now) (expression (c .before .before .before .before .before .before .before .before .args .tokens .now) (c .before .before .before .before .before .before .before .before .args .less)) _ _) (c .before .before .before .before .expression .ensures) (c .enum-told .given .1)
 
   pub iterate-requires : lts.Need-iterate-requires cs (pair-at t) pair-reads.Post
   iterate-requires c κs = search needs
@@ -57,8 +80,7 @@ module _ (t : ℕ) where
   same-length-2 c = c .before .before .before .before .before .before .before .before .expression .kept .1 .0
 
   pub returns-2 : lts.Need-returns-2 cs (pair-at t) pair-reads.Post
-  unfolding pair
-  returns-2 c = refuses _ _ _ (then-read _ (read-1 (c .before .before .before .before) .eq) ∙ need-failed _ _ _ (sym (c .before .next-symbol-is .ensures) ∙ not-true _ (c .if1 .taken)))
+  returns-2 c = refuses _ _ _ (stops (c .before .before .before .before .before .before .before .before .before .before .before .before .args .tokens .now) (expression (c .before .before .before .before .before .before .before .before .before .before .before .before .args .tokens .now) (c .before .before .before .before .before .before .before .before .before .before .before .before .args .less)) _ _ (read-1 (c .before .before .before .before) .eq) (sym (c .before .next-symbol-is .ensures) ∙ not-true _ (c .if1 .taken)))
 
   pub iterate-requires-2 : lts.Need-iterate-requires-2 cs (pair-at t) pair-reads.Post
   iterate-requires-2 c κs = search needs
@@ -79,8 +101,8 @@ module _ (t : ℕ) where
   same-length-3 c = c .before .before .before .before .behind .kept .1 .0 ∙ c .before .before .before .before .before .before .before .before .before .before .before .before .before .before .before .expression .kept .1 .0
 
   pub returns-3 : lts.Need-returns-3 cs (pair-at t) pair-reads.Post
-  unfolding pair item
-  returns-3 c = by-eq (then-read _ (read-1 (c .before .before .before .before .before .before .before .before .before .before .before) .eq) ∙ need-met _ _ _ (sym (c .before .before .before .before .before .before .before .before .next-symbol-is .ensures) ∙ not-false _ (c .before .before .before .before .before .before .before .if1 .left))) (rw (← (c .before .before .before .before .before .before .before .before .before .iterate .ensures), ← (c .before .before .before .before .before .iterate2 .ensures)) (pass _ (c .before .before .before .before .behind .ensures .1 _ _ _ _ (stands-step _ _ (c .before .before .before .before .before .iterate2 .ensures) (stands-step _ _ (c .before .before .before .before .before .before .before .before .before .iterate .ensures) (read-1 (c .before .before .before .before .before .before .before .before .before .before .before) .stands)))) (c .enum-told2 .given .1)))
+  unfolding item
+  returns-3 c = pass-on (second (c .before .before .before .before .before .before .before .before .before .before .before .before .before .before .before .before .before .before .before .args .tokens .now) (expression (c .before .before .before .before .before .before .before .before .before .before .before .before .before .before .before .before .before .before .before .args .tokens .now) (c .before .before .before .before .before .before .before .before .before .before .before .before .before .before .before .before .before .before .before .args .less)) _ _ (read-1 (c .before .before .before .before .before .before .before .before .before .before .before) .eq) (sym (c .before .before .before .before .before .before .before .before .next-symbol-is .ensures) ∙ not-false _ (c .before .before .before .before .before .before .before .if1 .left)) (c .before .before .before .before .before .before .before .before .before .iterate .ensures) (c .before .before .before .before .before .iterate2 .ensures)) (c .before .before .before .before .behind .ensures .1 _ _ _ _ (stands-step _ _ (c .before .before .before .before .before .iterate2 .ensures) (stands-step _ _ (c .before .before .before .before .before .before .before .before .before .iterate .ensures) (read-1 (c .before .before .before .before .before .before .before .before .before .before .before) .stands)))) (c .enum-told2 .given .1)
 
   pub put-row-requires : lts.Need-put-row-requires cs (pair-at t) pair-reads.Post
   put-row-requires c κs =
@@ -90,7 +112,7 @@ module _ (t : ℕ) where
   same-length-4 c = c .before .before .put-row .kept .0 ∙ c .before .before .before .before .before .before .before .before .before .behind .kept .1 .0 ∙ c .before .before .before .before .before .before .before .before .before .before .before .before .before .before .before .before .before .before .before .before .expression .kept .1 .0
 
   pub returns-4 : lts.Need-returns-4 cs (pair-at t) pair-reads.Post
-  unfolding pair item
+  unfolding item
   returns-4 c =
-      by-eq (then-read _ (read-1 (c .before .before .before .before .before .before .before .before .before .before .before .before .before .before .before .before) .eq) ∙ need-met _ _ _ (sym (c .before .before .before .before .before .before .before .before .before .before .before .before .before .next-symbol-is .ensures) ∙ not-false _ (c .before .before .before .before .before .before .before .before .before .before .before .before .if1 .left))) (rw (← (c .before .before .before .before .before .before .before .before .before .before .before .before .before .before .iterate .ensures), ← (c .before .before .before .before .before .before .before .before .before .before .iterate2 .ensures)) (by-eq (then-read _ (read-2 (c .before .before .before .before .before) .eq))
-      (c .before .before .put-row .ensures (c .before .before .before .before .before .before .before .before .before .before .before .before .before .before .before .before .before .before .before .before .before .before .before .before .args .tokens .now) (read-2 (c .before .before .before .before .before) .stands .within) .1 _ [] _ _ _ _ (read-2 (c .before .before .before .before .before) .stands) (record { few = tt; root = of-node; refs = (read-1 (c .before .before .before .before .before .before .before .before .before .before .before .before .before .before .before .before) .head, read-2 (c .before .before .before .before .before) .head, refl, refl) }))))
+      by-eq (ended (c .before .before .before .before .before .before .before .before .before .before .before .before .before .before .before .before .before .before .before .before .before .before .before .before .args .tokens .now) (expression (c .before .before .before .before .before .before .before .before .before .before .before .before .before .before .before .before .before .before .before .before .before .before .before .before .args .tokens .now) (c .before .before .before .before .before .before .before .before .before .before .before .before .before .before .before .before .before .before .before .before .before .before .before .before .args .less)) _ _ (read-1 (c .before .before .before .before .before .before .before .before .before .before .before .before .before .before .before .before) .eq) (sym (c .before .before .before .before .before .before .before .before .before .before .before .before .before .next-symbol-is .ensures) ∙ not-false _ (c .before .before .before .before .before .before .before .before .before .before .before .before .if1 .left)) (c .before .before .before .before .before .before .before .before .before .before .before .before .before .before .iterate .ensures) (c .before .before .before .before .before .before .before .before .before .before .iterate2 .ensures) (read-2 (c .before .before .before .before .before) .eq))
+      (c .before .before .put-row .ensures (c .before .before .before .before .before .before .before .before .before .before .before .before .before .before .before .before .before .before .before .before .before .before .before .before .args .tokens .now) (read-2 (c .before .before .before .before .before) .stands .within) .1 _ [] _ _ _ _ (read-2 (c .before .before .before .before .before) .stands) (record { few = tt; root = of-node; refs = (read-1 (c .before .before .before .before .before .before .before .before .before .before .before .before .before .before .before .before) .head, read-2 (c .before .before .before .before .before) .head, refl, refl) }))

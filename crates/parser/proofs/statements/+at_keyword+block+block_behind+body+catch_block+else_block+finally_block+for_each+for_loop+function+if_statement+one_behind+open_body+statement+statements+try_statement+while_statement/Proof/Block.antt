@@ -1,12 +1,18 @@
 -- `block` meets its contract: nothing between its signs, or a statement and those behind it up to the closing brace.
 use lib.Dec.{lit<}
-use mathlib.Core.Path.{refl, sym, _∙_}
-use mathlib.Core.List.{[]}
+use mathlib.Core.Path.{_≡_, refl, sym, ap, _∙_}
+use mathlib.Core.Bool.{false}
+use mathlib.Core.List.{List, []}
 use Prim.Native.Nat.{ℕ}
 use native.Mathlib.Omega.{arith}
-use Rattle.grammar.specs.Statements.{block, opened}
+use Rattle.grammar.specs.Words.{SRBrace, step, next-is}
+use Rattle.grammar.specs.Tree.{Trees}
+use Rattle.grammar.specs.Tree as tree
+use Rattle.grammar.specs.Parsed.{read, Reader, build, turns}
+use Rattle.grammar.specs.Expressions.{Rec, expression}
+use Rattle.grammar.specs.Statements.{statement, statements, block, opened}
 use Rattle.parser.specs.Meets.{of-node}
-use Rattle.parser.proofs.Answers.{at-once, taken, TakenOf, pass, by-eq, then-read, choose-true, choose-false, sooner}
+use Rattle.parser.proofs.Answers.{taken, TakenOf, by-eq, choose-true, choose-false, at-once, sooner, Starts, starts-at, starts-after, goes, pass-on}
 use Rattle.parser.proofs.Moves.{falls, fits-same, front-le, le-trans, on-step, ready-same, ready-step, stands-step, within-step}
 use borrow.Author.Needs.{needs}
 use Rattle.parser.proofs.statements.block.Reads as block-reads
@@ -17,6 +23,21 @@ use Rattle.parser.proofs.statements.statement.Reads as statement-reads
 use Rattle.parser.proofs.statements.statements.Reads as statements-reads
 use Rattle.parser.proofs.statements.+at_keyword+block+block_behind+body+catch_block+else_block+finally_block+for_each+for_loop+function+if_statement+one_behind+open_body+statement+statements+try_statement+while_statement.Lts-block as lts
 use Rattle.parser.proofs.statements.+at_keyword+block+block_behind+body+catch_block+else_block+finally_block+for_each+for_loop+function+if_statement+one_behind+open_body+statement+statements+try_statement+while_statement.Proof.Measures.{block-at, statement-below, statements-below}
+
+-- The definition, one reading after another.
+module _ (ts : List ℕ) (expr : Rec) (stmt : Reader Trees) (start room : ℕ) {c d : ℕ} (i : c ≡ step ts start) (some : next-is ts c SRBrace ≡ false) (j : d ≡ step ts c) where
+  unfoldable first : Starts (block ts expr stmt start room) (stmt d room)
+  unfolding block opened
+  first = starts-after (ap (λ (k : ℕ). opened ts expr stmt k room) (sym i) ∙ choose-false _ _ some) (starts-at (λ (k : ℕ). stmt k room) _ j)
+
+  module _ {us : Trees} {at left g : ℕ} (e : stmt d room ≡ read us at left) (k : g ≡ step ts at) where
+    unfoldable second : Starts (block ts expr stmt start room) (statements ts expr stmt SRBrace turns us g left)
+    unfolding first
+    second = starts-after (goes first e) (starts-at (λ (n : ℕ). statements ts expr stmt SRBrace turns us n left) _ k)
+
+    ended : {list : Trees} {at′ left′ : ℕ} → statements ts expr stmt SRBrace turns us g left ≡ read list at′ left′ → block ts expr stmt start room ≡ build (tree.block c list) at′ left′
+    unfolding second
+    ended f = goes second f
 
 module _ (t : ℕ) where
   abbrev cs : lts.Claims
@@ -63,8 +84,7 @@ module _ (t : ℕ) where
   same-length-2 c = c .before .before .before .before .statement .kept .1 .0
 
   pub returns-2 : lts.Need-returns-2 cs (block-at t) block-reads.Post
-  unfolding block opened
-  returns-2 c = rw (← (c .before .before .before .before .before .before .before .before .before .iterate .ensures)) (by-eq (choose-false _ _ (sym (c .before .before .before .before .before .before .before .next-symbol-is .ensures) ∙ c .before .before .before .before .before .before .if1 .left)) (rw (← (c .before .before .before .before .before .before .before .before .iterate2 .ensures)) (pass _ (c .before .before .before .before .statement .ensures) (c .enum-told .given .1))))
+  returns-2 c = pass-on (first (c .before .before .before .before .before .before .before .before .before .before .before .before .args .tokens .now) (expression (c .before .before .before .before .before .before .before .before .before .before .before .before .args .tokens .now) (c .before .before .before .before .before .before .before .before .before .before .before .before .args .less)) (statement (c .before .before .before .before .before .before .before .before .before .before .before .before .args .tokens .now) (c .before .before .before .before .before .before .before .before .before .before .before .before .args .less)) _ _ (c .before .before .before .before .before .before .before .before .before .iterate .ensures) (sym (c .before .before .before .before .before .before .before .next-symbol-is .ensures) ∙ c .before .before .before .before .before .before .if1 .left) (c .before .before .before .before .before .before .before .before .iterate2 .ensures)) (c .before .before .before .before .statement .ensures) (c .enum-told .given .1)
 
   pub iterate-requires-3 : lts.Need-iterate-requires-3 cs (block-at t) block-reads.Post
   iterate-requires-3 c κs = search needs
@@ -85,8 +105,7 @@ module _ (t : ℕ) where
   same-length-3 c = c .before .before .before .before .statements .kept .1 .0 ∙ c .before .before .before .before .before .before .before .before .before .before .before .before .statement .kept .1 .0
 
   pub returns-3 : lts.Need-returns-3 cs (block-at t) block-reads.Post
-  unfolding block opened
-  returns-3 c = rw (← (c .before .before .before .before .before .before .before .before .before .before .before .before .before .before .before .before .before .iterate .ensures)) (by-eq (choose-false _ _ (sym (c .before .before .before .before .before .before .before .before .before .before .before .before .before .before .before .next-symbol-is .ensures) ∙ c .before .before .before .before .before .before .before .before .before .before .before .before .before .before .if1 .left)) (rw (← (c .before .before .before .before .before .before .before .before .before .before .before .before .before .before .before .before .iterate2 .ensures)) (by-eq (then-read _ (read-1 (c .before .before .before .before .before .before .before .before) .eq)) (rw (← (c .before .before .before .before .before .before .iterate3 .ensures)) (pass _ (c .before .before .before .before .statements .ensures .1 _ _ _ _ (stands-step _ _ (c .before .before .before .before .before .before .iterate3 .ensures) (read-1 (c .before .before .before .before .before .before .before .before) .stands)) (read-1 (c .before .before .before .before .before .before .before .before) .head)) (c .enum-told2 .given .1))))))
+  returns-3 c = pass-on (second (c .before .before .before .before .before .before .before .before .before .before .before .before .before .before .before .before .before .before .before .before .args .tokens .now) (expression (c .before .before .before .before .before .before .before .before .before .before .before .before .before .before .before .before .before .before .before .before .args .tokens .now) (c .before .before .before .before .before .before .before .before .before .before .before .before .before .before .before .before .before .before .before .before .args .less)) (statement (c .before .before .before .before .before .before .before .before .before .before .before .before .before .before .before .before .before .before .before .before .args .tokens .now) (c .before .before .before .before .before .before .before .before .before .before .before .before .before .before .before .before .before .before .before .before .args .less)) _ _ (c .before .before .before .before .before .before .before .before .before .before .before .before .before .before .before .before .before .iterate .ensures) (sym (c .before .before .before .before .before .before .before .before .before .before .before .before .before .before .before .next-symbol-is .ensures) ∙ c .before .before .before .before .before .before .before .before .before .before .before .before .before .before .if1 .left) (c .before .before .before .before .before .before .before .before .before .before .before .before .before .before .before .before .iterate2 .ensures) (read-1 (c .before .before .before .before .before .before .before .before) .eq) (c .before .before .before .before .before .before .iterate3 .ensures)) (c .before .before .before .before .statements .ensures .1 _ _ _ _ (stands-step _ _ (c .before .before .before .before .before .before .iterate3 .ensures) (read-1 (c .before .before .before .before .before .before .before .before) .stands)) (read-1 (c .before .before .before .before .before .before .before .before) .head)) (c .enum-told2 .given .1)
 
   pub put-row-requires-2 : lts.Need-put-row-requires-2 cs (block-at t) block-reads.Post
   put-row-requires-2 c κs = (fits-same _ _ _ (c .before .before .before .before .before .before .before .before .before .before .before .before .before .before .before .before .before .before .before .before .before .before .pre .1 .fits) (c .before .before .before .before .before .before .statements .kept .1 .0 ∙ c .before .before .before .before .before .before .before .before .before .before .before .before .before .before .statement .kept .1 .0), omega (arith, within-step _ _ (c .before .before .before .before .before .before .before .before .before .before .before .before .before .before .before .before .before .before .before .iterate .ensures) (c .before .before .before .before .before .before .before .before .before .before .before .before .before .before .before .before .before .before .before .before .before .before .pre .1 .within), c .before .before .before .before .before .before .before .before .before .before .before .before .before .before .before .before .before .before .before .before .before .before .pre .1 .sound .few))
@@ -95,8 +114,6 @@ module _ (t : ℕ) where
   same-length-4 c = c .before .before .put-row2 .kept .0 ∙ c .before .before .before .before .before .before .before .before .before .statements .kept .1 .0 ∙ c .before .before .before .before .before .before .before .before .before .before .before .before .before .before .before .before .before .statement .kept .1 .0
 
   pub returns-4 : lts.Need-returns-4 cs (block-at t) block-reads.Post
-  unfolding block opened
   returns-4 c =
-      sooner (le-trans (on-step _ _ (c .before .before .before .before .before .before .before .before .before .before .before .before .before .before .before .before .before .before .before .before .before .before .iterate .ensures)) (on-step _ _ (c .before .before .before .before .before .before .before .before .before .before .before .before .before .before .before .before .before .before .before .before .before .iterate2 .ensures)))
-      (rw (← (c .before .before .before .before .before .before .before .before .before .before .before .before .before .before .before .before .before .before .before .before .before .before .iterate .ensures)) (by-eq (choose-false _ _ (sym (c .before .before .before .before .before .before .before .before .before .before .before .before .before .before .before .before .before .before .before .before .next-symbol-is .ensures) ∙ c .before .before .before .before .before .before .before .before .before .before .before .before .before .before .before .before .before .before .before .if1 .left)) (rw (← (c .before .before .before .before .before .before .before .before .before .before .before .before .before .before .before .before .before .before .before .before .before .iterate2 .ensures)) (by-eq (then-read _ (read-1 (c .before .before .before .before .before .before .before .before .before .before .before .before .before) .eq)) (rw (← (c .before .before .before .before .before .before .before .before .before .before .before .iterate3 .ensures)) (by-eq (then-read _ (read-2 (c .before .before .before .before .before) .eq))
-      (c .before .before .put-row2 .ensures (c .before .before .before .before .before .before .before .before .before .before .before .before .before .before .before .before .before .before .before .before .before .before .before .before .before .args .tokens .now) (read-2 (c .before .before .before .before .before) .stands .within) .1 _ [] _ _ _ _ (read-2 (c .before .before .before .before .before) .stands) (record { few = tt; root = of-node; refs = (read-2 (c .before .before .before .before .before) .head, refl, refl, refl) }))))))))
+      sooner (le-trans (on-step _ _ (c .before .before .before .before .before .before .before .before .before .before .before .before .before .before .before .before .before .before .before .before .before .before .iterate .ensures)) (on-step _ _ (c .before .before .before .before .before .before .before .before .before .before .before .before .before .before .before .before .before .before .before .before .before .iterate2 .ensures))) (by-eq (ended (c .before .before .before .before .before .before .before .before .before .before .before .before .before .before .before .before .before .before .before .before .before .before .before .before .before .args .tokens .now) (expression (c .before .before .before .before .before .before .before .before .before .before .before .before .before .before .before .before .before .before .before .before .before .before .before .before .before .args .tokens .now) (c .before .before .before .before .before .before .before .before .before .before .before .before .before .before .before .before .before .before .before .before .before .before .before .before .before .args .less)) (statement (c .before .before .before .before .before .before .before .before .before .before .before .before .before .before .before .before .before .before .before .before .before .before .before .before .before .args .tokens .now) (c .before .before .before .before .before .before .before .before .before .before .before .before .before .before .before .before .before .before .before .before .before .before .before .before .before .args .less)) _ _ (c .before .before .before .before .before .before .before .before .before .before .before .before .before .before .before .before .before .before .before .before .before .before .iterate .ensures) (sym (c .before .before .before .before .before .before .before .before .before .before .before .before .before .before .before .before .before .before .before .before .next-symbol-is .ensures) ∙ c .before .before .before .before .before .before .before .before .before .before .before .before .before .before .before .before .before .before .before .if1 .left) (c .before .before .before .before .before .before .before .before .before .before .before .before .before .before .before .before .before .before .before .before .before .iterate2 .ensures) (read-1 (c .before .before .before .before .before .before .before .before .before .before .before .before .before) .eq) (c .before .before .before .before .before .before .before .before .before .before .before .iterate3 .ensures) (read-2 (c .before .before .before .before .before) .eq))
+      (c .before .before .put-row2 .ensures (c .before .before .before .before .before .before .before .before .before .before .before .before .before .before .before .before .before .before .before .before .before .before .before .before .before .args .tokens .now) (read-2 (c .before .before .before .before .before) .stands .within) .1 _ [] _ _ _ _ (read-2 (c .before .before .before .before .before) .stands) (record { few = tt; root = of-node; refs = (read-2 (c .before .before .before .before .before) .head, refl, refl, refl) })))

@@ -1,13 +1,19 @@
 -- `function` meets its contract: a name, parameters in brackets, and the body behind them.
 use lib.Dec.{lit<}
-use mathlib.Core.Path.{refl, sym, _∙_}
-use mathlib.Core.List.{[]}
+use mathlib.Core.Path.{_≡_, refl, sym, _∙_}
+use mathlib.Core.Bool.{true}
+use mathlib.Core.List.{List, []}
 use Prim.Native.Nat.{ℕ}
 use borrow.Author.Tests.{not-true, not-false}
-use Rattle.grammar.specs.Expressions.{expression}
+use Rattle.grammar.specs.Words.{Identifier, SLParen, SRparen, step, is, next-is}
+use Rattle.grammar.specs.Tree.{Tree, Trees}
+use Rattle.grammar.specs.Tree as tree
+use Rattle.grammar.specs.Parsed.{read, Reader, build, InvalidSyntax}
+use Rattle.grammar.specs.Expressions.{Rec, expression, list-expr}
 use Rattle.grammar.specs.Statements.{statement, block, function}
 use Rattle.parser.specs.Meets.{of-node}
-use Rattle.parser.proofs.Answers.{taken, TakenOf, pass, by-eq, refuses, then-read, need-met, need-failed, sooner}
+use Rattle.parser.specs.Contracts.{body}
+use Rattle.parser.proofs.Answers.{taken, TakenOf, by-eq, refuses, need-met, need-failed, sooner, Starts, starts-at, starts-after, goes, pass-on}
 use Rattle.parser.proofs.Bodies.{body-then}
 use Rattle.parser.proofs.Moves.{falls, fits-same, front-le, le-trans, on-step, ready-same, ready-step, small}
 use borrow.Author.Needs.{needs}
@@ -20,6 +26,22 @@ use Rattle.words.proofs.next_symbol_is.Reads as next-symbol-is-reads
 use Rattle.parser.proofs.part.put_row.Reads as put-row-reads
 use Rattle.parser.proofs.statements.+at_keyword+block+block_behind+body+catch_block+else_block+finally_block+for_each+for_loop+function+if_statement+one_behind+open_body+statement+statements+try_statement+while_statement.Lts-function as lts
 use Rattle.parser.proofs.statements.+at_keyword+block+block_behind+body+catch_block+else_block+finally_block+for_each+for_loop+function+if_statement+one_behind+open_body+statement+statements+try_statement+while_statement.Proof.Measures.{function-at, body-below}
+
+-- The definition, one reading after another.
+module _ (ts : List ℕ) (expr : Rec) (stmt : Reader Trees) (name room : ℕ) {d : ℕ} (named : is ts name Identifier ≡ true) (met : next-is ts name SLParen ≡ true) (i : d ≡ step ts name) where
+  unfoldable first : Starts (function ts expr stmt name room) (list-expr ts expr d room)
+  unfolding function
+  first = starts-after (need-met _ _ _ named ∙ need-met _ _ _ met) (starts-at (λ (k : ℕ). list-expr ts expr k room) _ i)
+
+  module _ {parameters : Trees} {at left : ℕ} (e : list-expr ts expr d room ≡ read parameters at left) where
+    unfoldable second : Starts (function ts expr stmt name room) (body ts (block ts expr stmt) SRparen InvalidSyntax InvalidSyntax at left)
+    unfolding first
+    second = record { rest = _; eq = goes first e ∙ sym (body-then ts _ _ _ (block ts expr stmt) _ _ _) }
+
+    ended : {main : Tree} {at′ left′ : ℕ} → body ts (block ts expr stmt) SRparen InvalidSyntax InvalidSyntax at left ≡ read main at′ left′
+        → function ts expr stmt name room ≡ build (tree.function name parameters main) at′ left′
+    unfolding second
+    ended f = goes second f
 
 module _ (t : ℕ) where
   abbrev cs : lts.Claims
@@ -61,8 +83,7 @@ module _ (t : ℕ) where
   same-length c = c .before .before .before .before .list-expr .kept .1 .0
 
   pub returns-3 : lts.Need-returns-3 cs (function-at t) function-reads.Post
-  unfolding function
-  returns-3 c = by-eq (need-met _ _ _ (sym (c .before .before .before .before .before .before .before .before .before .before .is-identifier .ensures) ∙ not-false _ (c .before .before .before .before .before .before .before .before .before .if1 .left)) ∙ need-met _ _ _ (sym (c .before .before .before .before .before .before .before .before .next-symbol-is .ensures) ∙ not-false _ (c .before .before .before .before .before .before .before .if2 .left))) (rw (← (c .before .before .before .before .before .iterate .ensures)) (pass _ (c .before .before .before .before .list-expr .ensures) (c .enum-told .given .1)))
+  returns-3 c = pass-on (first (c .before .before .before .before .before .before .before .before .before .before .before .before .before .args .tokens .now) (expression (c .before .before .before .before .before .before .before .before .before .before .before .before .before .args .tokens .now) (c .before .before .before .before .before .before .before .before .before .before .before .before .before .args .less)) (statement (c .before .before .before .before .before .before .before .before .before .before .before .before .before .args .tokens .now) (c .before .before .before .before .before .before .before .before .before .before .before .before .before .args .less)) _ _ (sym (c .before .before .before .before .before .before .before .before .before .before .is-identifier .ensures) ∙ not-false _ (c .before .before .before .before .before .before .before .before .before .if1 .left)) (sym (c .before .before .before .before .before .before .before .before .next-symbol-is .ensures) ∙ not-false _ (c .before .before .before .before .before .before .before .if2 .left)) (c .before .before .before .before .before .iterate .ensures)) (c .before .before .before .before .list-expr .ensures) (c .enum-told .given .1)
 
   pub body-requires : lts.Need-body-requires cs (function-at t) function-reads.Post
   body-requires c κs =
@@ -78,8 +99,7 @@ module _ (t : ℕ) where
   same-length-2 c = c .before .before .before .before .body .kept .1 .0 ∙ c .before .before .before .before .before .before .before .before .before .before .before .list-expr .kept .1 .0
 
   pub returns-4 : lts.Need-returns-4 cs (function-at t) function-reads.Post
-  unfolding function
-  returns-4 c = by-eq (need-met _ _ _ (sym (c .before .before .before .before .before .before .before .before .before .before .before .before .before .before .before .before .before .is-identifier .ensures) ∙ not-false _ (c .before .before .before .before .before .before .before .before .before .before .before .before .before .before .before .before .if1 .left)) ∙ need-met _ _ _ (sym (c .before .before .before .before .before .before .before .before .before .before .before .before .before .before .before .next-symbol-is .ensures) ∙ not-false _ (c .before .before .before .before .before .before .before .before .before .before .before .before .before .before .if2 .left))) (rw (← (c .before .before .before .before .before .before .before .before .before .before .before .before .iterate .ensures)) (by-eq (then-read _ (read-1 (c .before .before .before .before .before .before .before) .eq) ∙ sym (body-then (c .before .before .before .before .before .before .before .before .before .before .before .before .before .before .before .before .before .before .before .before .args .tokens .now) _ _ _ (block (c .before .before .before .before .before .before .before .before .before .before .before .before .before .before .before .before .before .before .before .before .args .tokens .now) (expression (c .before .before .before .before .before .before .before .before .before .before .before .before .before .before .before .before .before .before .before .before .args .tokens .now) (c .before .before .before .before .before .before .before .before .before .before .before .before .before .before .before .before .before .before .before .before .args .less)) (statement (c .before .before .before .before .before .before .before .before .before .before .before .before .before .before .before .before .before .before .before .before .args .tokens .now) (c .before .before .before .before .before .before .before .before .before .before .before .before .before .before .before .before .before .before .before .before .args .less))) _ _ _)) (pass _ (c .before .before .before .before .body .ensures .1 _ _ _ _ (read-1 (c .before .before .before .before .before .before .before) .stands)) (c .enum-told2 .given .1))))
+  returns-4 c = pass-on (second (c .before .before .before .before .before .before .before .before .before .before .before .before .before .before .before .before .before .before .before .before .args .tokens .now) (expression (c .before .before .before .before .before .before .before .before .before .before .before .before .before .before .before .before .before .before .before .before .args .tokens .now) (c .before .before .before .before .before .before .before .before .before .before .before .before .before .before .before .before .before .before .before .before .args .less)) (statement (c .before .before .before .before .before .before .before .before .before .before .before .before .before .before .before .before .before .before .before .before .args .tokens .now) (c .before .before .before .before .before .before .before .before .before .before .before .before .before .before .before .before .before .before .before .before .args .less)) _ _ (sym (c .before .before .before .before .before .before .before .before .before .before .before .before .before .before .before .before .before .is-identifier .ensures) ∙ not-false _ (c .before .before .before .before .before .before .before .before .before .before .before .before .before .before .before .before .if1 .left)) (sym (c .before .before .before .before .before .before .before .before .before .before .before .before .before .before .before .next-symbol-is .ensures) ∙ not-false _ (c .before .before .before .before .before .before .before .before .before .before .before .before .before .before .if2 .left)) (c .before .before .before .before .before .before .before .before .before .before .before .before .iterate .ensures) (read-1 (c .before .before .before .before .before .before .before) .eq)) (c .before .before .before .before .body .ensures .1 _ _ _ _ (read-1 (c .before .before .before .before .before .before .before) .stands)) (c .enum-told2 .given .1)
 
   pub put-row-requires : lts.Need-put-row-requires cs (function-at t) function-reads.Post
   put-row-requires c κs = (fits-same _ _ _ (c .before .before .before .before .before .before .before .before .before .before .before .before .before .before .before .before .before .before .before .before .before .before .pre .1 .fits) (c .before .before .before .before .before .before .body .kept .1 .0 ∙ c .before .before .before .before .before .before .before .before .before .before .before .before .before .list-expr .kept .1 .0), small (c .before .before .before .before .before .before .before .before .before .before .before .before .before .before .before .before .before .before .before .before .before .before .pre .1))
@@ -88,7 +108,6 @@ module _ (t : ℕ) where
   same-length-3 c = c .before .before .put-row .kept .0 ∙ c .before .before .before .before .before .before .before .before .before .body .kept .1 .0 ∙ c .before .before .before .before .before .before .before .before .before .before .before .before .before .before .before .before .list-expr .kept .1 .0
 
   pub returns-5 : lts.Need-returns-5 cs (function-at t) function-reads.Post
-  unfolding function
   returns-5 c =
-      sooner (on-step _ _ (c .before .before .before .before .before .before .before .before .before .before .before .before .before .before .before .before .before .iterate .ensures)) (by-eq (need-met _ _ _ (sym (c .before .before .before .before .before .before .before .before .before .before .before .before .before .before .before .before .before .before .before .before .before .before .is-identifier .ensures) ∙ not-false _ (c .before .before .before .before .before .before .before .before .before .before .before .before .before .before .before .before .before .before .before .before .before .if1 .left)) ∙ need-met _ _ _ (sym (c .before .before .before .before .before .before .before .before .before .before .before .before .before .before .before .before .before .before .before .before .next-symbol-is .ensures) ∙ not-false _ (c .before .before .before .before .before .before .before .before .before .before .before .before .before .before .before .before .before .before .before .if2 .left))) (rw (← (c .before .before .before .before .before .before .before .before .before .before .before .before .before .before .before .before .before .iterate .ensures)) (by-eq (then-read _ (read-1 (c .before .before .before .before .before .before .before .before .before .before .before .before) .eq) ∙ sym (body-then (c .before .before .before .before .before .before .before .before .before .before .before .before .before .before .before .before .before .before .before .before .before .before .before .before .before .args .tokens .now) _ _ _ (block (c .before .before .before .before .before .before .before .before .before .before .before .before .before .before .before .before .before .before .before .before .before .before .before .before .before .args .tokens .now) (expression (c .before .before .before .before .before .before .before .before .before .before .before .before .before .before .before .before .before .before .before .before .before .before .before .before .before .args .tokens .now) (c .before .before .before .before .before .before .before .before .before .before .before .before .before .before .before .before .before .before .before .before .before .before .before .before .before .args .less)) (statement (c .before .before .before .before .before .before .before .before .before .before .before .before .before .before .before .before .before .before .before .before .before .before .before .before .before .args .tokens .now) (c .before .before .before .before .before .before .before .before .before .before .before .before .before .before .before .before .before .before .before .before .before .before .before .before .before .args .less))) _ _ _) ∙ then-read _ (read-2 (c .before .before .before .before .before) .eq))
-      (c .before .before .put-row .ensures (c .before .before .before .before .before .before .before .before .before .before .before .before .before .before .before .before .before .before .before .before .before .before .before .before .before .args .tokens .now) (read-2 (c .before .before .before .before .before) .stands .within) .1 _ [] _ _ _ _ (read-2 (c .before .before .before .before .before) .stands) (record { few = tt; root = of-node; refs = (read-1 (c .before .before .before .before .before .before .before .before .before .before .before .before) .head, read-2 (c .before .before .before .before .before) .head, refl, refl) })))))
+      sooner (on-step _ _ (c .before .before .before .before .before .before .before .before .before .before .before .before .before .before .before .before .before .iterate .ensures)) (by-eq (ended (c .before .before .before .before .before .before .before .before .before .before .before .before .before .before .before .before .before .before .before .before .before .before .before .before .before .args .tokens .now) (expression (c .before .before .before .before .before .before .before .before .before .before .before .before .before .before .before .before .before .before .before .before .before .before .before .before .before .args .tokens .now) (c .before .before .before .before .before .before .before .before .before .before .before .before .before .before .before .before .before .before .before .before .before .before .before .before .before .args .less)) (statement (c .before .before .before .before .before .before .before .before .before .before .before .before .before .before .before .before .before .before .before .before .before .before .before .before .before .args .tokens .now) (c .before .before .before .before .before .before .before .before .before .before .before .before .before .before .before .before .before .before .before .before .before .before .before .before .before .args .less)) _ _ (sym (c .before .before .before .before .before .before .before .before .before .before .before .before .before .before .before .before .before .before .before .before .before .before .is-identifier .ensures) ∙ not-false _ (c .before .before .before .before .before .before .before .before .before .before .before .before .before .before .before .before .before .before .before .before .before .if1 .left)) (sym (c .before .before .before .before .before .before .before .before .before .before .before .before .before .before .before .before .before .before .before .before .next-symbol-is .ensures) ∙ not-false _ (c .before .before .before .before .before .before .before .before .before .before .before .before .before .before .before .before .before .before .before .if2 .left)) (c .before .before .before .before .before .before .before .before .before .before .before .before .before .before .before .before .before .iterate .ensures) (read-1 (c .before .before .before .before .before .before .before .before .before .before .before .before) .eq) (read-2 (c .before .before .before .before .before) .eq))
+      (c .before .before .put-row .ensures (c .before .before .before .before .before .before .before .before .before .before .before .before .before .before .before .before .before .before .before .before .before .before .before .before .before .args .tokens .now) (read-2 (c .before .before .before .before .before) .stands .within) .1 _ [] _ _ _ _ (read-2 (c .before .before .before .before .before) .stands) (record { few = tt; root = of-node; refs = (read-1 (c .before .before .before .before .before .before .before .before .before .before .before .before) .head, read-2 (c .before .before .before .before .before) .head, refl, refl) })))
