@@ -39,7 +39,8 @@ fn given(bytes: &[u8], tokens: &[u16], pool: &mut [u32]) -> Answer {
     }
 }
 
-// Whether a case's answer and pool are those of its record, in buffers of its size.
+// Whether a case's answer and pool are those of its record, in buffers of its size. `has_rows` is asked in any case: it
+// leaves the pool as the next case wants it.
 fn agrees(bytes: &[u8], tokens: &mut [u16], pool: &mut [u32]) -> bool {
     fill(bytes, tokens);
     let answer = given(bytes, tokens, pool);

@@ -10,6 +10,7 @@ use borrow.Author.Tests.{ltb-false}
 use Rattle.replay.proofs.replay.Statement.{statement}
 use Rattle.replay.proofs.replay.Tie as tie
 
+-- The first and the second of two tests neither of which holds.
 neither-first : (a b : Bool) → (a || b) ≡ false → a ≡ false
 neither-first true b e = e
 neither-first false b e = refl
@@ -30,6 +31,7 @@ cast-count c = search needs
 returns : tie.Need-returns
 returns c = search needs
 
+-- Behind the test the case fits the pool.
 pool-fits : (c : tie.Else1) → c .before .before .word .result ≤ length (c .before .before .before .before .before .before .args .pool .now)
 pool-fits c = ltb-false _ _ (neither-first _ (ltb (length (c .before .before .before .before .before .before .args .tokens .now)) (c .before .half .result)) (c .if1 .left))
 

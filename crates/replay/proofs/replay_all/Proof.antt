@@ -11,10 +11,12 @@ use borrow.Author.Tests.{ltb-true}
 use Rattle.replay.proofs.replay_all.Statement.{statement}
 use Rattle.replay.proofs.replay_all.Tie as tie
 
+-- The first of two tests that both hold.
 both-first : (a b : Bool) → (a && b) ≡ true → a ≡ true
 both-first true b e = refl
 both-first false b e = e
 
+-- A test adds at most one to a count.
 at-most-one : (b : Bool) → boolByte b ≤ 1
 at-most-one true = omega arith
 at-most-one false = omega arith
@@ -26,6 +28,7 @@ Inv-loop bytes₀ tokens₀ pool₀ differing₀ skipped₀ case₀ bytes tokens
 abbrev μ-loop : tie.MeasureT-loop
 μ-loop bytes₀ tokens₀ pool₀ differing₀ skipped₀ case₀ bytes tokens pool differing skipped case = 18446744073709551615 - case
 
+-- In a turn the cases are below the number that the loop ends at.
 below : (c : tie.Then1 Inv-loop μ-loop) → c .before .before .before .before .before .loop .case < 18446744073709551615
 below c = ltb-true _ _ (both-first _ _ (c .if1 .taken))
 
