@@ -1,68 +1,41 @@
 // The comparison of an answer and its pool with a record.
 use crate::stream;
-use crate::stream::Record;
+use crate::stream::word;
 use answer::Answer;
 
+// What a pool is full of before it is lent.
+pub const OTHER: u32 = 0xFFFF_FFFF;
+
+// Whether a record begins with four words, and says that the pool is zero behind the used rows.
+fn begins(bytes: &[u8], first: usize, second: usize, third: usize, fourth: usize) -> bool {
+    (word(bytes, stream::FIRST) == first)
+        & (word(bytes, stream::SECOND) == second)
+        & (word(bytes, stream::THIRD) == third)
+        & (word(bytes, stream::FOURTH) == fourth)
+        & (word(bytes, stream::CLEAN) == 1)
+}
+
 // Whether an answer's numbers are those of a record.
-fn has_numbers(record: Record, answer: Answer) -> bool {
+pub fn has_numbers(bytes: &[u8], answer: Answer) -> bool {
     match answer {
-        Answer::Accepted(root, rows, place) => {
-            record.first == 0
-                && record.second == root
-                && record.third as usize == rows
-                && record.fourth as usize == place
-        }
-        Answer::Refused(number, place) => {
-            number != 0
-                && record.first == number
-                && record.second as usize == place
-                && record.third == 0
-                && record.fourth == 0
-        }
+        Answer::Accepted(root, rows, place) => begins(bytes, 0, root as usize, rows, place),
+        Answer::Refused(number, place) => begins(bytes, number as usize, place, 0, 0),
     }
 }
 
-// Whether words are those that the bytes begin with.
-fn has_words(bytes: &[u8], words: &[u32]) -> bool {
-    let mut at = 0;
+// Whether a pool begins with the rows of a record, and is zero behind them. Its words become another one than 0 again.
+pub fn has_rows(bytes: &[u8], pool: &mut [u32]) -> bool {
+    let used = stream::row_words(bytes);
+    let mut same = true;
     let mut i = 0;
-    while i < words.len() {
-        if bytes.len() - at < 4 {
-            return false;
+    while i < pool.len() {
+        let mut wanted = 0;
+        if i < used {
+            wanted = word(bytes, 2 * i + stream::ROWS);
         }
-        if words[i] != stream::word(bytes[at], bytes[at + 1], bytes[at + 2], bytes[at + 3]) {
-            return false;
-        }
-        at += 4;
+        same = same & (pool[i] as usize == wanted);
+        pool[i] = OTHER;
         i += 1;
     }
-    true
-}
-
-// Whether every word is zero.
-fn is_zero(words: &[u32]) -> bool {
-    let mut i = 0;
-    while i < words.len() {
-        if words[i] != 0 {
-            return false;
-        }
-        i += 1;
-    }
-    true
-}
-
-// Whether an answer and its pool are those of a record, whose rows the bytes begin with.
-pub fn is_recorded(record: Record, bytes: &[u8], answer: Answer, pool: &[u32]) -> bool {
-    let used = stream::row_words(stream::rows(record));
-    if pool.len() < used {
-        return false;
-    }
-    if !has_numbers(record, answer) {
-        return false;
-    }
-    if !has_words(bytes, &pool[..used]) {
-        return false;
-    }
-    let clean = is_zero(&pool[used..]);
-    clean == (record.clean == 1)
+    same
 }

@@ -1,40 +1,37 @@
 // Replays the recorded cases on standard input, and says where an entry answers otherwise than its record.
 mod compare;
 mod stream;
-mod tally;
 
 use answer::Answer;
-use compare::is_recorded;
-use stream::Case;
-use stream::Next;
-use stream::Recorded;
-use tally::Tally;
-use tally::Verdict;
+use libc::STDOUT_FILENO;
+use stream::half;
+use stream::read;
 
-// The most words of an array and of a pool, and the bytes of the pool's rows.
+// The most words of an array and of a pool, and the bytes of such a case with its record.
 const TOKENS: usize = 65536;
 
 const POOL: usize = 524296;
 
-const BYTES: usize = 2097184;
+const BYTES: usize = 2228288;
 
-// What a pool is full of before it is lent.
-const OTHER: u32 = 0xFFFF_FFFF;
+// What comes of a case: whether the answer is the recorded one, as a number, or a third one where it doesn't fit the buffers.
+const DIFFERS: u8 = 0;
 
-// Every word of a pool becomes another one than 0.
-fn spoil(pool: &mut [u32]) {
+const SKIPPED: u8 = 2;
+
+// The tokens are those of a case.
+fn fill(bytes: &[u8], tokens: &mut [u16]) {
     let mut i = 0;
-    while i < pool.len() {
-        pool[i] = OTHER;
+    while i < tokens.len() {
+        tokens[i] = half(bytes, i + stream::TOKENS);
         i += 1;
     }
 }
 
-// The answer of the case's entry.
-fn given(case: Case, tokens: &[u16], pool: &mut [u32]) -> Answer {
-    spoil(pool);
-    let entry = case.entry;
-    let start = case.start as usize;
+// The answer of a case's entry.
+fn given(bytes: &[u8], tokens: &[u16], pool: &mut [u32]) -> Answer {
+    let entry = half(bytes, stream::ENTRY);
+    let start = half(bytes, stream::START) as usize;
     match entry {
         0 => parser::one_expression(tokens, pool, start),
         1 => parser::one_statement(tokens, pool, start),
@@ -42,86 +39,80 @@ fn given(case: Case, tokens: &[u16], pool: &mut [u32]) -> Answer {
     }
 }
 
-// Reads past a record.
-fn skip(bytes: &mut [u8]) -> Verdict {
-    let Recorded::Whole(record) = stream::next_record() else {
-        return Verdict::Cut;
-    };
-    if stream::rows_read(bytes, record) {
-        Verdict::Skipped
-    } else {
-        Verdict::Cut
+// Whether a case's answer and pool are those of its record, in buffers of its size. `has_rows` is asked in any case: it
+// leaves the pool as the next case wants it.
+fn agrees(bytes: &[u8], tokens: &mut [u16], pool: &mut [u32]) -> bool {
+    fill(bytes, tokens);
+    let answer = given(bytes, tokens, pool);
+    compare::has_numbers(bytes, answer) & compare::has_rows(bytes, pool)
+}
+
+// Replays a case, if it fits the buffers.
+fn replay(bytes: &[u8], tokens: &mut [u16], pool: &mut [u32]) -> u8 {
+    let size = stream::word(bytes, stream::SIZE);
+    let count = half(bytes, stream::COUNT) as usize;
+    if (pool.len() < size) | (tokens.len() < count) {
+        return SKIPPED;
+    }
+    agrees(bytes, &mut tokens[..count], &mut pool[..size]) as u8
+}
+
+// Writes a number and a text.
+fn print(n: u64, text: &[u8]) {
+    io::print_decimal(STDOUT_FILENO, n);
+    io::write_all(STDOUT_FILENO, text);
+}
+
+// Says what came of a case, if it did.
+fn say(is_so: bool, case: u64, what: &[u8]) {
+    if is_so {
+        io::write_all(STDOUT_FILENO, b"case ");
+        print(case, what);
     }
 }
 
-// Reads the record of an answer, and compares.
-fn judge(bytes: &mut [u8], answer: Answer, pool: &[u32]) -> Verdict {
-    let Recorded::Whole(record) = stream::next_record() else {
-        return Verdict::Cut;
-    };
-    if !stream::rows_read(bytes, record) {
-        return Verdict::Cut;
-    }
-    if is_recorded(record, bytes, answer, pool) {
-        Verdict::Same
-    } else {
-        Verdict::Differs
-    }
+// Says what came of a case that was replayed or skipped, unless all is well.
+fn say_verdict(case: u64, verdict: u8) {
+    say(verdict == DIFFERS, case, b" differs\n");
+    say(verdict == SKIPPED, case, b" is skipped: it doesn't fit\n");
 }
 
-// Replays a case whose tokens the bytes hold, in buffers of its size.
-fn replay(case: Case, bytes: &mut [u8], tokens: &mut [u16], pool: &mut [u32]) -> Verdict {
-    stream::tokens(bytes, tokens);
-    let answer = given(case, tokens, pool);
-    judge(bytes, answer, pool)
+// The last line: the counts.
+fn print_counts(replayed: u64, differing: u64, skipped: u64) {
+    print(replayed, b" replayed, ");
+    print(differing, b" differing, ");
+    print(skipped, b" skipped\n");
 }
 
-// Reads the rest of a case, and replays it if it fits the buffers.
-fn take(case: Case, bytes: &mut [u8], tokens: &mut [u16], pool: &mut [u32]) -> Verdict {
-    let count = case.count as usize;
-    let size = case.pool as usize;
-    if !stream::read(bytes, stream::token_bytes(case.count)) {
-        return Verdict::Cut;
-    }
-    if tokens.len() < count {
-        return skip(bytes);
-    }
-    if pool.len() < size {
-        return skip(bytes);
-    }
-    replay(case, bytes, &mut tokens[..count], &mut pool[..size])
+// Reads the next case with its record; false if the stream ends before. That it ends in the middle of the case is said.
+fn take(bytes: &mut [u8], case: u64) -> bool {
+    let got = read(bytes, 0, stream::HEAD_END);
+    let n = 2 * half(bytes, stream::COUNT) as usize;
+    let whole = (read(bytes, stream::TOKENS_AT, stream::TOKENS_AT + n) == n)
+        & stream::record_read(bytes);
+    say((got > 0) & !whole, case, b" is cut short\n");
+    whole
 }
 
-// Reads the next case, and replays it.
-fn turn(bytes: &mut [u8], tokens: &mut [u16], pool: &mut [u32]) -> Verdict {
-    let next = stream::next_case();
-    match next {
-        Next::Case(case) => take(case, bytes, tokens, pool),
-        Next::Cut => Verdict::Cut,
-        Next::End => Verdict::End,
+// Replays case after case. A proved loop has to end, and nothing says that a stream does, so this one ends at a number of
+// cases that no run gets to.
+fn replay_all(bytes: &mut [u8], tokens: &mut [u16], pool: &mut [u32]) {
+    let mut differing = 0;
+    let mut skipped = 0;
+    let mut case = 0;
+    while (case < u64::MAX) & take(bytes, case) {
+        let verdict = replay(bytes, tokens, pool);
+        say_verdict(case, verdict);
+        differing += (verdict == DIFFERS) as u64;
+        skipped += (verdict == SKIPPED) as u64;
+        case += 1;
     }
-}
-
-// Replays case after case. A proved loop has to end, and nothing says that a stream does, so this one counts down from a
-// number that no run uses up.
-fn replay_all(bytes: &mut [u8], tokens: &mut [u16], pool: &mut [u32]) -> Tally {
-    let mut tally = Tally::new();
-    let mut turns = u64::MAX;
-    while turns > 0 {
-        turns -= 1;
-        let verdict = turn(bytes, tokens, pool);
-        tally = tally.with(verdict);
-        if tally::is_last(verdict) {
-            return tally;
-        }
-    }
-    tally
+    print_counts(case - skipped, differing, skipped);
 }
 
 fn main() {
     let mut bytes: [u8; BYTES] = [0; BYTES];
     let mut tokens: [u16; TOKENS] = [0; TOKENS];
-    let mut pool: [u32; POOL] = [0; POOL];
-    let tally = replay_all(&mut bytes, &mut tokens, &mut pool);
-    tally.print();
+    let mut pool: [u32; POOL] = [compare::OTHER; POOL];
+    replay_all(&mut bytes, &mut tokens, &mut pool);
 }
