@@ -20,7 +20,7 @@ use Rattle.grammar.proofs.Post.{Fact, Post, post-then, post-map, post-r
 use Rattle.grammar.proofs.Steps.{step-on}
 use Rattle.grammar.proofs.Turns.{Valid, goes-forward, enough, statement-eof, not-at-eof}
 use Rattle.grammar.proofs.Runs.{Run, Above, Ahead, start, up₀, up, both, later, Hands, hands, Reads, shut-hands, begun-at, match-reads}
-use Rattle.grammar.proofs.Runs.{single, listed, row-of, join-nil, rec-then, list-then, expression-runs}
+use Rattle.grammar.proofs.Runs.{single, listed, row-of, row-list, rec-then, list-then, expression-runs}
 
 -- What a statement's reader gives: and it reads nothing at EOF.
 abbrev pub Stated : (ts : List ℕ) (at room : ℕ) → Fact Trees
@@ -61,7 +61,7 @@ module _ (ts : List ℕ) (v : Valid ts) (expr : Rec) (expr-runs : (pre at room :
         → ((all : Trees) (c m : ℕ) → Run ts s n all c m → Post R (f (all, c, m))) → Post R (statements ts expr stmt close turns list at room >>= f)
     statements-then R f close s n list c at room r h k = post-then _ R _ f (statements-runs close turns s n list at room (later ts r h) (enough ts v at)) k
 
-    ruleset parts = (post-refused, post-need, post-choose, row-of, join-nil, up₀, up, expr-then, exprs-then, stmt-then, statements-then)
+    ruleset parts = (post-refused, post-need, post-choose, row-of, row-list, up₀, up, expr-then, exprs-then, stmt-then, statements-then)
 
     opened-runs : Reads ts (opened ts expr stmt)
     unfolding opened join

@@ -15,7 +15,7 @@ use Rattle.grammar.specs.Script.{nesting, one-expression, one-statement,
 use Rattle.grammar.specs.Claims.{OfEntries, KeepsRule, GoesForward, SpendsRows, StaysInside, NeverUnreached}
 use Rattle.grammar.proofs.Post.{Fact, Post, post-then, post-map, post-need}
 use Rattle.grammar.proofs.Turns.{enough, post-entry}
-use Rattle.grammar.proofs.Runs.{Run, start, up₀, row-of, join-nil, expression-runs}
+use Rattle.grammar.proofs.Runs.{Run, start, up₀, row-list, expression-runs}
 use Rattle.grammar.proofs.Blocks.{statements-runs, statement-runs}
 
 module _ (ts : List ℕ) (at room : ℕ) where
@@ -34,7 +34,7 @@ unfolding whole-script join
 script-entry ts room = post-entry ts _ _ (λ v. post-then _ _ _ _
     (statements-runs ts v (expression ts nesting) (expression-runs ts v nesting) (statement ts nesting) (statement-runs ts v nesting) EOF turns 0 room nil 0 room
     (start ts 0 room (v .some)) (enough ts v 0))
-    (λ list c m r. post-then _ _ _ _ (row-of ts 46 0 0 c list nil nil nil r (up₀ ts c) (rw join-nil) refl) (λ t c m h. h .run)))
+    (λ list c m r. post-then _ _ _ _ (row-list ts 46 0 0 c list nil nil nil r (up₀ ts c) refl refl) (λ t c m h. h .run)))
 
 of-entries : OfEntries (λ ts start room us at left. Run ts start room us at left)
 of-entries ts start room us at left =

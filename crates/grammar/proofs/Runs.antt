@@ -150,6 +150,11 @@ module _ (ts : List ℕ) where
         shut = λ n. tt;
       })
 
+  -- The same where a list stands in the last slot.
+  pub row-list : {s n c room : ℕ} {us : Trees} (k mark p at : ℕ) (c0 c1 c2 c3 : Trees) → Run ts s n us c room → Ahead ts c at
+      → join us nil ≡ join c0 (join c1 (join c2 c3)) → eqb k 12 ≡ false → Post (Shut ts s n) (build (node k mark p c0 c1 c2 c3) at room)
+  row-list {us} k mark p at c0 c1 c2 c3 x h e other = row-of k mark p at c0 c1 c2 c3 x h (rw (join-nil us) at e) other
+
   -- A reader of one tree that is no infix row without brackets.
   abbrev pub Reads : Reader Tree → Type 0
   Reads f = (at room : ℕ) → at < length ts → Post (Shut ts at room) (f at room)
@@ -232,7 +237,7 @@ module _ (ts : List ℕ) where
     dots-then : (A : Type 0) (at room : ℕ) → Hands A listed at room (dots ts turns nil at room)
     dots-then A at room = hands A listed at room _ (λ h. dots-runs turns at room nil at room (start at room h) (enough ts v at))
 
-    ruleset parts = (post-refused, post-need, post-choose, row-of, dots-then, join-nil, up₀, up)
+    ruleset parts = (post-refused, post-need, post-choose, row-of, row-list, dots-then, up₀, up)
 
     dot-runs : Reads (dot-expression ts)
     unfolding dot-expression join
