@@ -79,7 +79,7 @@ grouped-least mark = go (eqb (mark / 256 % 2) 0) refl (decLt mark 256)
     go false e (yes lt) = let z : mark / 256 ≡ 0 = div-eq-of-lt lt in let f : true ≡ false = rw z at e in let n : _≡_ {A = ℕ} 0 1 = cc in absurd (omega arith)
     go false e (no ge) = omega arith
 
-pub join-nil : (us : Trees) → join us nil ≡ us
+join-nil : (us : Trees) → join us nil ≡ us
 unfolding join
 join-nil nil = refl
 join-nil (t ▸ us) = rw (join-nil us)
@@ -121,6 +121,7 @@ module _ (ts : List ℕ) where
   pub later : {s n c m c′ : ℕ} {us : Trees} → Run ts s n us c m → Ahead ts c c′ → Run ts s n us c′ m
   later x h = record { on = omega (arith, x .on, h .on); within = h .stays (x .within); spent = x .spent; kept = x .kept }
 
+  -- The same said from an earlier place.
   pub from : {s s′ n c m : ℕ} {us : Trees} → s ≤ s′ → Run ts s′ n us c m → Run ts s n us c m
   from h x = record { on = omega (arith, x .on); within = x .within; spent = x .spent; kept = x .kept }
 
@@ -165,6 +166,7 @@ module _ (ts : List ℕ) where
   pub shut-hands : (A : Type 0) (f : Reader Tree) (at room : ℕ) → Reads f → Hands A single at room (f at room)
   shut-hands A f at room p = hands A single at room (f at room) (read-runs f p at room)
 
+  -- A reader that starts a step on, and a match of readers.
   pub begun-at : (f : Reader Tree) → Reads f → Reads (λ at. f (step ts at))
   begun-at f p at room h = post-map _ _ (f (step ts at) room) (p (step ts at) room (in-step ts at h)) (λ t c m q.
       record { run = from (step-on ts at) (q .run); shut = q .shut })
