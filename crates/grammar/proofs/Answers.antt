@@ -11,7 +11,7 @@ use Rattle.grammar.specs.Script.{one-expression, one-statement, whole-sc
 use Rattle.grammar.specs.Claims.{AnswersChains, Accepts, Accepted, ZeroAccepts, InLargerPool, MoreWords}
 use Rattle.grammar.proofs.Laws as laws
 use Rattle.grammar.proofs.More.{rows-more}
-use Rattle.grammar.proofs.Turns.{never-unreached}
+use Rattle.grammar.proofs.Laws.{never-unreached}
 
 accepts : (p : Parsed Trees) → ((place : ℕ) → ¬ (p ≡ refused Unreached place)) → Accepts p → Accepted p
 unfolding answer

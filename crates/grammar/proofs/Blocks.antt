@@ -1,127 +1,162 @@
 -- What the readers of statements have read where they accept: the walk of their text.
-use Prim.Native.Nat.{ℕ, zero, suc, _≤_}
+use Prim.Native.Nat.{ℕ, zero, suc, _+_, _≤_, _<_}
+use mathlib.Core.Path.{_≡_, refl, sym, _∙_}
+use mathlib.Core.Bool.{true, false}
+use mathlib.Core.Logic.{inl}
+use native.Mathlib.Omega.{arith}
+use native.Mathlib.Decide.{decLt}
+use lib.Dec.{eqb, ltb}
+use lib.ListN.{length}
+use borrow.Author.Tests.{eqb-true, eqb-false}
 use mathlib.Core.List.{List}
-use Rattle.grammar.specs.Words.{step}
-use Rattle.grammar.specs.Tree.{Trees, join}
+use Rattle.grammar.specs.Words.{EOF, SSemiColon, tok, step, is}
+use Rattle.grammar.specs.Tree.{Trees, leaf, join}
 use Rattle.grammar.specs.Tree as tree
-use Rattle.grammar.specs.Parsed.{Parsed, Reader, _>>=_, match, turns}
+use Rattle.grammar.specs.Parsed.{Parsed, Reader, _>>=_, turns, BreakWithoutSemicolon, ContinueWithoutSemicolon}
 use Rattle.grammar.specs.Expressions.{Rec, list-expr, expression}
 use Rattle.grammar.specs.Statements.{statements, opened, block, assert, function, else, if, value, var, const, while, return, foreach, for}
 use Rattle.grammar.specs.Statements.{throw, finally, try, expression-statement, alone, begun, kept, level, statement}
-use Rattle.grammar.proofs.Post.{Fact, Post, post-then, post-refused, post-need, post-choose}
-use Rattle.grammar.proofs.Runs.{Run, Shut, Above, start, up₀, up, later, Hands, hands, shut-hands, single, listed, row-of, join-nil, rec-then}
-use Rattle.grammar.proofs.Runs.{list-then, expression-runs}
+use Rattle.grammar.proofs.Post.{Fact, Post, post-then, post-map, post-refused, post-need, post-choose, end, _▹_}
+use Rattle.grammar.proofs.Steps.{step-on}
+use Rattle.grammar.proofs.Turns.{Valid, goes-forward, enough, statement-eof, not-at-eof}
+use Rattle.grammar.proofs.Runs.{Run, Above, Ahead, start, up₀, up, both, later, Hands, hands, Reads, shut-hands, begun-at, match-reads}
+use Rattle.grammar.proofs.Runs.{single, listed, row-of, row-list, rec-then, list-then, expression-runs}
 
-module _ (ts : List ℕ) (expr : Rec) (expr-runs : (pre at room : ℕ) → Post (Above ts pre at room) (expr pre at room))
-    (stmt : Reader Trees) (stmt-runs : (at room : ℕ) → Post (Run ts at room) (stmt at room))
+-- What a statement's reader gives: and it reads nothing at EOF.
+abbrev pub Stated : (ts : List ℕ) (at room : ℕ) → Fact Trees
+Stated ts at room us c m = Run ts at room us c m × ¬ (tok ts at ≡ EOF)
+
+module _ (ts : List ℕ) (v : Valid ts) (expr : Rec) (expr-runs : (pre at room : ℕ) → at < length ts → Post (Above ts pre at room) (expr pre at room))
+    (stmt : Reader Trees) (stmt-runs : (at room : ℕ) → at < length ts → Post (Stated ts at room) (stmt at room))
   where
     expr-then : (A : Type 0) (pre at room : ℕ) → Hands ts A single at room (expr pre at room)
-    expr-then = rec-then ts expr expr-runs
+    expr-then = rec-then ts v expr expr-runs
 
     exprs-then : (A : Type 0) (at room : ℕ) → Hands ts A listed at room (list-expr ts expr at room)
-    exprs-then = list-then ts expr expr-runs
+    exprs-then = list-then ts v expr expr-runs
 
     stmt-then : (A : Type 0) (at room : ℕ) → Hands ts A listed at room (stmt at room)
-    stmt-then A at room = hands ts A listed at room _ (stmt-runs at room)
+    stmt-then A at room = hands ts A listed at room _ (λ h. post-map _ _ (stmt at room) (stmt-runs at room h) (λ us c m q. q .0))
 
-    pub statements-runs : (close i s n : ℕ) (list : Trees) (c at room : ℕ) → Run ts s n list c room → c ≤ at
+    -- Behind a statement the cursor goes on.
+    stmt-on : (at room : ℕ) (us : Trees) (c m : ℕ) → at < length ts → Stated ts at room us c m → at < step ts c
+    stmt-on at room us c m h q = go (decLt at c)
+      where
+        go : Dec (at < c) → at < step ts c
+        go (yes lt) = omega (arith, step-on ts c)
+        go (no ge) = let e : at ≡ c = omega (arith, q .0 .on) in rw (← e) (goes-forward ts v at h (inl (q .1)))
+
+    pub statements-runs : (close i s n : ℕ) (list : Trees) (at room : ℕ) → Run ts s n list at room → length ts ≤ i + at
         → Post (Run ts s n) (statements ts expr stmt close i list at room)
-    unfolding statements
-    statements-runs close zero s n list c at room r h = tt
-    statements-runs close (suc i) s n list c at room r h =
-        let q = later ts r h in
-        let more = statements-runs close i s n in
-        search (more, post-choose, stmt-then, up₀, up) depth 9
+    unfolding statements is
+    statements-runs close zero s n list at room r f = absurd (omega (arith, r .within))
+    statements-runs close (suc i) s n list at room r f = post-choose _ _ _ _ (λ e. r) (λ e. post-choose _ _ _ _
+        (λ e′.
+        let lt : at < step ts at = goes-forward ts v at (r .within) (inl (λ q. eqb-false SSemiColon EOF refl (sym (eqb-true _ _ e′) ∙ q))) in
+        statements-runs close i s n list (step ts at) room (later ts r (up ts _ _ (up₀ ts at))) (omega arith))
+        (λ e′. post-then _ _ _ _ (stmt-runs at room (r .within)) (λ us c m q. statements-runs close i s n (join list us) (step ts c) m
+        (later ts (both ts r (up₀ ts at) (q .0)) (up ts _ _ (up₀ ts c))) (omega (arith, stmt-on at room us c m (r .within) q)))))
 
-    statements-then : {A : Type 0} (R : Fact A) (f : Trees × ℕ × ℕ → Parsed A) (close s n : ℕ) (list : Trees) (c at room : ℕ) → Run ts s n list c room → c ≤ at
+    statements-then : {A : Type 0} (R : Fact A) (f : Trees × ℕ × ℕ → Parsed A) (close s n : ℕ) (list : Trees) (c at room : ℕ) → Run ts s n list c room → Ahead ts c at
         → ((all : Trees) (c m : ℕ) → Run ts s n all c m → Post R (f (all, c, m))) → Post R (statements ts expr stmt close turns list at room >>= f)
-    statements-then R f close s n list c at room r h k = post-then _ R _ f (statements-runs close turns s n list c at room r h) k
+    statements-then R f close s n list c at room r h k = post-then _ R _ f (statements-runs close turns s n list at room (later ts r h) (enough ts v at)) k
 
-    ruleset parts = (post-refused, post-need, post-choose, row-of, join-nil, up₀, up, expr-then, exprs-then, stmt-then, statements-then)
+    ruleset parts = (post-refused, post-need, post-choose, row-of, row-list, up₀, up, expr-then, exprs-then, stmt-then, statements-then)
 
-    opened-runs : (at room : ℕ) → Post (Shut ts at room) (opened ts expr stmt at room)
+    opened-runs : Reads ts (opened ts expr stmt)
     unfolding opened join
-    opened-runs at room = let r = start ts at room in search parts depth 12
+    opened-runs at room h = let r = start ts at room h in search parts depth 12
 
     block-then : (A : Type 0) (at room : ℕ) → Hands ts A single (step ts at) room (block ts expr stmt at room)
     unfolding block
-    block-then A at room = shut-hands ts A (step ts at) room _ (opened-runs (step ts at) room)
+    block-then A at room = shut-hands ts A (opened ts expr stmt) (step ts at) room opened-runs
 
-    else-runs : (at room : ℕ) → Post (Run ts at room) (else ts expr stmt at room)
+    else-runs : (at room : ℕ) → at < length ts → Post (Run ts at room) (else ts expr stmt at room)
     unfolding else join
-    else-runs at room = let r = start ts at room in search (parts, block-then) depth 9
+    else-runs at room h = let r = start ts at room h in search (parts, block-then) depth 9
 
     else-then : (A : Type 0) (at room : ℕ) → Hands ts A listed at room (else ts expr stmt at room)
     else-then A at room = hands ts A listed at room _ (else-runs at room)
 
-    finally-runs : (at room : ℕ) → Post (Run ts at room) (finally ts expr stmt at room)
+    finally-runs : (at room : ℕ) → at < length ts → Post (Run ts at room) (finally ts expr stmt at room)
     unfolding finally join
-    finally-runs at room = let r = start ts at room in search (parts, block-then) depth 9
+    finally-runs at room h = let r = start ts at room h in search (parts, block-then) depth 9
 
     finally-then : (A : Type 0) (at room : ℕ) → Hands ts A listed at room (finally ts expr stmt at room)
     finally-then A at room = hands ts A listed at room _ (finally-runs at room)
 
     ruleset walk = (parts, block-then, else-then, finally-then)
 
-    assert-runs : (at room : ℕ) → Post (Shut ts at room) (assert ts expr stmt at room)
+    assert-runs : Reads ts (assert ts expr stmt)
     unfolding assert join
-    assert-runs at room = let r = start ts at room in search walk depth 12
+    assert-runs at room h = let r = start ts at room h in search walk depth 12
 
-    function-runs : (s at room : ℕ) → s ≤ at → Post (Shut ts s room) (function ts expr stmt at room)
+    function-runs : Reads ts (function ts expr stmt)
     unfolding function join
-    function-runs s at room h = let r = start ts s room in search walk depth 12
+    function-runs at room h = let r = start ts at room h in search walk depth 12
 
-    if-runs : (at room : ℕ) → Post (Shut ts at room) (if ts expr stmt at room)
+    if-runs : Reads ts (if ts expr stmt)
     unfolding if join
-    if-runs at room = let r = start ts at room in search walk depth 12
+    if-runs at room h = let r = start ts at room h in search walk depth 12
 
-    var-runs : (s at room : ℕ) → s ≤ at → Post (Shut ts s room) (var ts expr stmt at room)
+    var-runs : Reads ts (var ts expr stmt)
     unfolding var value join
-    var-runs s at room h = let r = start ts s room in search walk depth 12
+    var-runs at room h = let r = start ts at room h in search walk depth 12
 
-    const-runs : (s at room : ℕ) → s ≤ at → Post (Shut ts s room) (const ts expr stmt at room)
+    const-runs : Reads ts (const ts expr stmt)
     unfolding const value join
-    const-runs s at room h = let r = start ts s room in search walk depth 12
+    const-runs at room h = let r = start ts at room h in search walk depth 12
 
-    while-runs : (at room : ℕ) → Post (Shut ts at room) (while ts expr stmt at room)
+    while-runs : Reads ts (while ts expr stmt)
     unfolding while join
-    while-runs at room = let r = start ts at room in search walk depth 12
+    while-runs at room h = let r = start ts at room h in search walk depth 12
 
-    return-runs : (at room : ℕ) → Post (Shut ts at room) (return ts expr stmt at room)
+    return-runs : Reads ts (return ts expr stmt)
     unfolding return join
-    return-runs at room = let r = start ts at room in search walk depth 12
+    return-runs at room h = let r = start ts at room h in search walk depth 12
 
-    foreach-runs : (at room : ℕ) → Post (Shut ts at room) (foreach ts expr stmt at room)
+    foreach-runs : Reads ts (foreach ts expr stmt)
     unfolding foreach join
-    foreach-runs at room = let r = start ts at room in search walk depth 15
+    foreach-runs at room h = let r = start ts at room h in search walk depth 15
 
-    for-runs : (at room : ℕ) → Post (Shut ts at room) (for ts expr stmt at room)
+    for-runs : Reads ts (for ts expr stmt)
     unfolding for join
-    for-runs at room = let r = start ts at room in search walk depth 12
+    for-runs at room h = let r = start ts at room h in search walk depth 12
 
-    throw-runs : (at room : ℕ) → Post (Shut ts at room) (throw ts expr stmt at room)
+    throw-runs : Reads ts (throw ts expr stmt)
     unfolding throw join
-    throw-runs at room = let r = start ts at room in search walk
+    throw-runs at room h = let r = start ts at room h in search walk
 
-    try-runs : (at room : ℕ) → Post (Shut ts at room) (try ts expr stmt at room)
+    try-runs : Reads ts (try ts expr stmt)
     unfolding try join
-    try-runs at room = let r = start ts at room in search walk depth 15
+    try-runs at room h = let r = start ts at room h in search walk depth 15
 
-    plain-runs : (at room : ℕ) → Post (Shut ts at room) (expression-statement ts expr stmt at room)
+    plain-runs : Reads ts (expression-statement ts expr stmt)
     unfolding expression-statement join
-    plain-runs at room = let r = start ts at room in search walk
+    plain-runs at room h = let r = start ts at room h in search walk
 
-    kept-runs : (at room : ℕ) → Post (Shut ts at room) (kept ts expr stmt at room)
-    unfolding kept match alone begun join
-    kept-runs at room =
-        let r = start ts at room in
-        search (post-need, post-choose, row-of, up₀, up, var-runs, const-runs, if-runs, assert-runs, while-runs, return-runs, function-runs, for-runs, throw-runs, try-runs, foreach-runs, plain-runs) depth 25 fits 4000
+    alone-runs : (k number : ℕ) → eqb k 12 ≡ false → ltb 0 number ≡ true → Reads ts (alone ts expr stmt (leaf k 0) number)
+    unfolding alone join
+    alone-runs k number other z at room h = let r = start ts at room h in search (post-need, row-of, up₀, up)
 
-    level-runs : (at room : ℕ) → Post (Run ts at room) (level ts expr stmt at room)
+    begun-runs : (f : Reader tree.Tree) → Reads ts f → Reads ts (begun ts expr stmt f)
+    unfolding begun
+    begun-runs f p at room h = post-need _ _ _ _ _ refl (λ e. p at room h)
+
+    kept-runs : Reads ts (kept ts expr stmt)
+    unfolding kept
+    kept-runs at room h = match-reads ts (tok ts at) (expression-statement ts expr stmt)
+        (alone-runs 32 BreakWithoutSemicolon refl refl ▹ alone-runs 33 ContinueWithoutSemicolon refl refl ▹ begun-runs _ (begun-at ts (var ts expr stmt) var-runs)
+        ▹ begun-runs _ (begun-at ts (const ts expr stmt) const-runs) ▹ begun-runs _ if-runs ▹ begun-runs _ assert-runs ▹ begun-runs _ while-runs ▹ return-runs
+        ▹ begun-runs _ (begun-at ts (function ts expr stmt) function-runs) ▹ begun-runs _ for-runs ▹ begun-runs _ throw-runs ▹ begun-runs _ try-runs ▹ begun-runs _ foreach-runs ▹ end)
+        plain-runs at room h
+
+    level-runs : (at room : ℕ) → at < length ts → Post (Run ts at room) (level ts expr stmt at room)
     unfolding level
-    level-runs at room = post-choose _ _ _ _ (λ e. start ts at room) (λ e. post-then _ _ _ _ (kept-runs at room) (λ t c m h. h .run))
+    level-runs at room h = post-choose _ _ _ _ (λ e. start ts at room h) (λ e. post-then _ _ _ _ (kept-runs at room h) (λ t c m q. q .run))
 
-pub statement-runs : (ts : List ℕ) (d at room : ℕ) → Post (Run ts at room) (statement ts d at room)
+pub statement-runs : (ts : List ℕ) (v : Valid ts) (d at room : ℕ) → at < length ts → Post (Stated ts at room) (statement ts d at room)
 unfolding statement
-statement-runs ts zero at room = tt
-statement-runs ts (suc d) at room = level-runs ts (expression ts d) (expression-runs ts d) (statement ts d) (statement-runs ts d) at room
+statement-runs ts v zero at room h = refl
+statement-runs ts v (suc d) at room h = not-at-eof ts at (Run ts at room) (statement ts (suc d) at room)
+    (level-runs ts v (expression ts d) (expression-runs ts v d) (statement ts d) (statement-runs ts v d) at room h) (statement-eof ts at (suc d) room)

@@ -3,10 +3,13 @@ use Prim.Native.Nat.{ℕ, zero, suc, _+_, _≤_}
 use native.Mathlib.Nat.{suc-add}
 use mathlib.Core.Path.{_≡_, refl}
 use mathlib.Core.Bool.{Bool, true, false}
-use mathlib.Core.List.{List}
+use mathlib.Core.List.{List, [], _∷_}
 use native.Mathlib.Omega.{arith}
-use Rattle.grammar.specs.Tree.{Tree, Trees}
-use Rattle.grammar.specs.Parsed.{Parsed, refused, read, Reader, _>>=_, _>>_, Check, met, failed, build, choose, match}
+use Rattle.grammar.specs.Words.{tok, step}
+use Rattle.grammar.specs.Tree.{Tree, Trees, Thread, Async}
+use Rattle.grammar.specs.Tree as tree
+use Rattle.grammar.specs.Parsed.{Parsed, refused, read, Reader, _>>=_, _>>_, Check, met, failed, build, choose, Arm, _⇒_, match}
+use Rattle.grammar.specs.Parsed.{BreakWithoutSemicolon, ContinueWithoutSemicolon}
 use Rattle.grammar.specs.Expressions as e
 use Rattle.grammar.specs.Statements as s
 use Rattle.grammar.specs.Claims.{MoreNesting, MoreRows}
@@ -49,6 +52,17 @@ unfolding build
 below-build k t at zero = tt
 below-build k t at (suc m) = rw (suc-add m k)
 
+-- What holds of the arms of two matches, arm by arm.
+infixr 5 _▹_
+data Arms (k : ℕ) : List (Arm Tree) → List (Arm Tree) → Type 0 where
+  end : Arms k [] []
+  _▹_ : {w : ℕ} {f g : Reader Tree} {xs ys : List (Arm Tree)} → Under k f g → Arms k xs ys → Arms k ((w ⇒ f) ∷ xs) ((w ⇒ g) ∷ ys)
+
+below-match : {k : ℕ} {xs ys : List (Arm Tree)} (w : ℕ) (f g : Reader Tree) → Arms k xs ys → Under k f g → Under k (match w xs f) (match w ys g)
+unfolding match
+below-match w f g end h at room = h at room
+below-match {k} w f g (r ▹ rs) h at room = below-choose k _ _ _ _ _ (r at room) (below-match w f g rs h at room)
+
 ruleset parts = (below-then, below-check, below-choose, below-build, below-read, below-refused)
 
 module _ (k : ℕ) (ts : List ℕ) where
@@ -85,9 +99,43 @@ module _ (k : ℕ) (ts : List ℕ) where
 
     ruleset walk = (parts, identifier-under, dots-under, list-under, pair-under, entries-under)
 
+    lambda-under : Under k (e.lambda ts a) (e.lambda ts b)
+    unfolding e.lambda
+    lambda-under at room = search walk depth 9
+
+    started-under : (flag : ℕ) → Under k (e.started ts a flag) (e.started ts b flag)
+    unfolding e.started
+    started-under flag at room = search walk depth 9
+
+    array-under : Under k (e.array ts a) (e.array ts b)
+    unfolding e.array
+    array-under at room = search walk depth 9
+
+    hash-under : Under k (e.hash-literal ts a) (e.hash-literal ts b)
+    unfolding e.hash-literal
+    hash-under at room = search walk depth 9
+
+    prefix-under : (mark : ℕ) → Under k (e.prefix ts a mark) (e.prefix ts b mark)
+    unfolding e.prefix
+    prefix-under mark at room = search walk depth 9
+
+    sub-under : Under k (e.sub-expression ts a) (e.sub-expression ts b)
+    unfolding e.sub-expression
+    sub-under at room = search walk depth 9
+
+    shell-under : Under k (e.shell ts a) (e.shell ts b)
+    unfolding e.shell e.command
+    shell-under at room = search walk depth 9
+
+    leaf-under : (made : ℕ → Tree) → Under k (λ at. build (made at) at) (λ at. build (made at) at)
+    leaf-under made at room = below-build k (made at) at room
+
     prefix-part-under : Under k (e.prefix-part ts a) (e.prefix-part ts b)
-    unfolding e.prefix-part match e.lambda e.started e.array e.hash-literal e.prefix e.sub-expression e.shell e.command
-    prefix-part-under at room = search (walk, dot-under, no-prefix-under) depth 30 fits 4000
+    unfolding e.prefix-part
+    prefix-part-under at room = below-match (tok ts at) (e.no-prefix ts) (e.no-prefix ts)
+        (dot-under ▹ leaf-under tree.int ▹ leaf-under tree.float ▹ leaf-under tree.char ▹ leaf-under tree.string ▹ leaf-under (tree.bool 1) ▹ leaf-under (tree.bool 0) ▹ lambda-under
+        ▹ leaf-under tree.none ▹ started-under Thread ▹ started-under Async ▹ array-under ▹ hash-under ▹ prefix-under 0 ▹ prefix-under 1 ▹ prefix-under 2 ▹ prefix-under 3
+        ▹ sub-under ▹ shell-under ▹ end) no-prefix-under at room
 
     operation-under : (t : Tree) → Under k (e.operation ts a t) (e.operation ts b t)
     unfolding e.operation match e.suffix-expression e.call e.index e.infix-expression
@@ -131,9 +179,71 @@ module _ (k : ℕ) (ts : List ℕ) where
     unfolding s.finally
     finally-under at room = search bodies depth 9
 
+    ruleset every = (bodies, else-under, finally-under)
+
+    var-under : Under k (s.var ts a f) (s.var ts b g)
+    unfolding s.var s.value
+    var-under at room = search every depth 12
+
+    const-under : Under k (s.const ts a f) (s.const ts b g)
+    unfolding s.const s.value
+    const-under at room = search every depth 12
+
+    if-under : Under k (s.if ts a f) (s.if ts b g)
+    unfolding s.if
+    if-under at room = search every depth 12
+
+    assert-under : Under k (s.assert ts a f) (s.assert ts b g)
+    unfolding s.assert
+    assert-under at room = search every depth 12
+
+    while-under : Under k (s.while ts a f) (s.while ts b g)
+    unfolding s.while
+    while-under at room = search every depth 12
+
+    return-under : Under k (s.return ts a f) (s.return ts b g)
+    unfolding s.return
+    return-under at room = search every depth 12
+
+    function-under : Under k (s.function ts a f) (s.function ts b g)
+    unfolding s.function
+    function-under at room = search every depth 12
+
+    for-under : Under k (s.for ts a f) (s.for ts b g)
+    unfolding s.for
+    for-under at room = search every depth 12
+
+    throw-under : Under k (s.throw ts a f) (s.throw ts b g)
+    unfolding s.throw
+    throw-under at room = search every depth 12
+
+    try-under : Under k (s.try ts a f) (s.try ts b g)
+    unfolding s.try
+    try-under at room = search every depth 12
+
+    foreach-under : Under k (s.foreach ts a f) (s.foreach ts b g)
+    unfolding s.foreach
+    foreach-under at room = search every depth 12
+
+    plain-under : Under k (s.expression-statement ts a f) (s.expression-statement ts b g)
+    unfolding s.expression-statement
+    plain-under at room = search every depth 12
+
+    alone-under : (made : ℕ → Tree) (number : ℕ) → Under k (s.alone ts a f made number) (s.alone ts b g made number)
+    unfolding s.alone
+    alone-under made number at room = search parts
+
+    begun-under : (x y : Reader Tree) → Under k x y → Under k (s.begun ts a f x) (s.begun ts b g y)
+    unfolding s.begun
+    begun-under x y h at room = below-check k _ _ _ (h at room)
+
     kept-under : Under k (s.kept ts a f) (s.kept ts b g)
-    unfolding s.kept match s.alone s.begun s.var s.const s.value s.if s.assert s.while s.return s.function s.for s.throw s.try s.foreach s.expression-statement
-    kept-under at room = search (bodies, else-under, finally-under) depth 30 fits 4000
+    unfolding s.kept
+    kept-under at room = below-match (tok ts at) (s.expression-statement ts a f) (s.expression-statement ts b g)
+        (alone-under tree.break BreakWithoutSemicolon ▹ alone-under tree.continue ContinueWithoutSemicolon ▹ begun-under _ _ (λ at. var-under (step ts at))
+        ▹ begun-under _ _ (λ at. const-under (step ts at)) ▹ begun-under _ _ if-under ▹ begun-under _ _ assert-under ▹ begun-under _ _ while-under ▹ return-under
+        ▹ begun-under _ _ (λ at. function-under (step ts at)) ▹ begun-under _ _ for-under ▹ begun-under _ _ throw-under ▹ begun-under _ _ try-under ▹ begun-under _ _ foreach-under ▹ end)
+        plain-under at room
 
     statement-level-under : Under k (s.level ts a f) (s.level ts b g)
     unfolding s.level

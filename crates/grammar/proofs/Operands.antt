@@ -18,9 +18,9 @@ use Rattle.grammar.specs.Script.{nesting, array-good, one-expression}
 use Rattle.grammar.specs.Claims.{Grouping, GroupsOperands, Binds, EveryOf, KeepsBut, Keeps, Part, operand, sign, reading, Joins, DivMulMod}
 use Rattle.grammar.specs.Claims.{Operands, final, further, rows-of}
 use Rattle.grammar.proofs.Steps.{step-on, others, no-infix, infix-goes-on, infix-facts, goes-on-up}
-use Rattle.grammar.proofs.Runs.{Above, expression-runs}
+use Rattle.grammar.proofs.Turns.{Valid, valid, goes-forward}
+use Rattle.grammar.proofs.Runs.{expression-runs, placed}
 use Rattle.grammar.proofs.More.{nesting-more}
-use Rattle.grammar.proofs.Turns.{Valid, valid, Placed, placed, goes-forward, expression-safe}
 use Rattle.grammar.proofs.Prefix.{Begins, level-begins}
 
 -- A tree that is an operand: no infix row, or one in brackets.
@@ -37,8 +37,8 @@ module _ (ts : List ℕ) where
       go (no ge) = omega arith
   above-all (node k m p c0 c1 c2 c3) b h = tt
 
-  whole : (d s n : ℕ) (t : Tree) (c m : ℕ) → expression ts d DivMulMod s n ≡ read t c m → Whole t
-  whole d s n t c m e = let a : Above ts DivMulMod s n t c m = rw e at (expression-runs ts d DivMulMod s n) in above-all t (a .root) (a .run .kept)
+  whole : (v : Valid ts) (d s n : ℕ) (t : Tree) (c m : ℕ) → expression ts d DivMulMod s n ≡ read t c m → Whole t
+  whole v d s n t c m e = let a = placed ts v d DivMulMod s n t c m e in above-all t (a .2 .root) (a .2 .run .kept)
 
   binds-whole : (t : Tree) → Whole t → (n : ℕ) → Binds ts n t
   binds-whole (infixed m p l r) w n = λ lt. absurd (omega arith)
@@ -88,13 +88,13 @@ module _ {ts : List ℕ} {d : ℕ} where
   raise (g-one v) = g-one v
   raise (g-two {p} l n q i a r) = let h : 1 ≤ order (tok ts p) = infix-facts (tok ts p) (omega arith) .least in g-two l n q i h r
 
-  binds-good : {lo s e : ℕ} {t : Tree} → Good ts d lo t s e → Binds ts lo t
-  binds-good {lo} {s} {e} {t} (g-one v) = binds-whole ts t (whole ts d s (size t) t e 0 v) lo
-  binds-good (g-two l n q i a r) = λ lt. a
+  binds-good : (v : Valid ts) {lo s e : ℕ} {t : Tree} → Good ts d lo t s e → Binds ts lo t
+  binds-good v {lo} {s} {e} {t} (g-one x) = binds-whole ts t (whole ts v d s (size t) t e 0 x) lo
+  binds-good v (g-two l n q i a r) = λ lt. a
 
-  joins-good : {lo s e : ℕ} {t : Tree} → Good ts d lo t s e → Joins (Keeps ts) t
-  joins-good {s} {e} {t} (g-one v) = joins-whole ts t (whole ts d s (size t) t e 0 v)
-  joins-good (g-two l n q i a r) = λ lt. ((binds-good l, binds-good r), joins-good l, joins-good r)
+  joins-good : (v : Valid ts) {lo s e : ℕ} {t : Tree} → Good ts d lo t s e → Joins (Keeps ts) t
+  joins-good v {s} {e} {t} (g-one x) = joins-whole ts t (whole ts v d s (size t) t e 0 x)
+  joins-good v (g-two l n q i a r) = λ lt. ((binds-good v l, binds-good v r), joins-good v l, joins-good v r)
 
 -- Above its own order an operator stops the loop.
 self : (ts : List ℕ) (c : ℕ) {p mark : ℕ} → step ts c ≡ p → infix-of (tok ts p) ≡ suc mark → goes-on (order (tok ts p)) (tok ts (step ts c)) ≡ false
@@ -129,10 +129,18 @@ module _ (ts : List ℕ) (rec : Rec) (pre : ℕ) where
   unfolding climb choose
   stopped turn t at room h = rw h
 
+record Placed (ts : List ℕ) (d s c : ℕ) : Type 0 where
+  some : 1 ≤ d
+  start : s < length ts
+  on : s ≤ c
+  end : c < length ts
+
 module _ (ts : List ℕ) (v : Valid ts) (d : ℕ) where
   -- Where such a tree stands, and how its left side stands to it.
   good-placed : {lo s e : ℕ} {t : Tree} → Good ts d lo t s e → Placed ts d s e
-  good-placed {s} {e} {t} (g-one x) = placed ts v d DivMulMod s (size t) t e 0 x
+  good-placed {s} {e} {t} (g-one x) =
+      let (some, start, a) = placed ts v d DivMulMod s (size t) t e 0 x in
+      record { some = some; start = start; on = a .run .on; end = a .run .within }
   good-placed (g-two {c} {p} l n q i a r) =
       let x = good-placed l in
       let y = good-placed r in
@@ -153,7 +161,7 @@ unfolding expression
 operand-begins ts v d D pre s left e t small h q =
     let nine : level ts (expression ts D) DivMulMod s (size t + left) ≡ read t e left =
     rw (zero-add left) at (nesting-more ts d (suc D) left s (size t) e 0 h .0 DivMulMod t q) in
-    rw nine at (level-begins ts v (expression ts D) (expression-safe ts v D) pre small s (size t + left) (placed ts v d DivMulMod s (size t) t e 0 q .start))
+    rw nine at (level-begins ts v (expression ts D) (expression-runs ts v D) pre small s (size t + left) (placed ts v d DivMulMod s (size t) t e 0 q .1))
 
 -- What was read so far is in the loop's hand, and of its turns no more are spent than places were passed.
 record Ran (ts : List ℕ) (rec : Rec) (pre s room : ℕ) (t : Tree) (e left : ℕ) : Type 0 where
@@ -228,14 +236,14 @@ small-mark w mark i = omega (arith, infix-facts w (omega arith) .mark)
 onto-two : (w mark p : ℕ) (l r : Tree) (ws : List Part) → infix-of w ≡ suc mark → onto (infixed mark p l r) ws ≡ onto l (sign mark p ∷ onto r ws)
 onto-two w mark p l r ws i = rw (lt-ltb mark 256 (small-mark w mark i))
 
-module _ (ts : List ℕ) (d mark s c p : ℕ) (u : Tree) (v : expression ts d DivMulMod s (size u) ≡ read u c 0) (n : ¬ (tok ts c ≡ SSemiColon))
+module _ (ts : List ℕ) (valid : Valid ts) (d mark s c p : ℕ) (u : Tree) (v : expression ts d DivMulMod s (size u) ≡ read u c 0) (n : ¬ (tok ts c ≡ SSemiColon))
     (q : step ts c ≡ p) (i : infix-of (tok ts p) ≡ suc mark)
   where
     hang : (lo e : ℕ) (t : Tree) → lo ≤ order (tok ts p) → Good ts d (suc (order (tok ts p))) t (step ts p) e → Front ts d lo mark p s e u t
     hang lo e t a g = record {
       tree = infixed mark p u t;
       good = g-two (g-one v) n q i a g;
-      reads = λ ws. onto-two (tok ts p) mark p u t ws i ∙ onto-whole u (sign mark p ∷ onto t ws) (whole ts d s (size u) u c 0 v);
+      reads = λ ws. onto-two (tok ts p) mark p u t ws i ∙ onto-whole u (sign mark p ∷ onto t ws) (whole ts valid d s (size u) u c 0 v);
     }
 
     under : {lo mark′ c′ p′ e : ℕ} {l r : Tree} → Front ts d (order (tok ts p′)) mark p s c′ u l → ¬ (tok ts c′ ≡ SSemiColon) → step ts c′ ≡ p′
@@ -266,11 +274,11 @@ record Made (ts : List ℕ) (d s e : ℕ) (ws : List Part) : Type 0 where
   good : Good ts d 1 tree s e
   reads : onto tree [] ≡ ws
 
-made : {ts : List ℕ} {d s e : ℕ} {ws : List Part} → Operands ts d s e ws → Made ts d s e ws
-made {ts} {d} {s} {e} (final {t} v) = record { tree = t; good = g-one v; reads = onto-whole t [] (whole ts d s (size t) t e 0 v) }
-made {ts} {d} {s} (further {c} {p} {mark} {t} v n q i o) =
-    let m = made o in
-    let f = front ts d mark s c p t v n q i 1 (m .good) (omega arith) (infix-facts (tok ts p) (omega arith) .least) in
+made : {ts : List ℕ} (valid : Valid ts) {d s e : ℕ} {ws : List Part} → Operands ts d s e ws → Made ts d s e ws
+made {ts} valid {d} {s} {e} (final {t} v) = record { tree = t; good = g-one v; reads = onto-whole t [] (whole ts valid d s (size t) t e 0 v) }
+made {ts} valid {d} {s} (further {c} {p} {mark} {t} v n q i o) =
+    let m = made valid o in
+    let f = front ts valid d mark s c p t v n q i 1 (m .good) (omega arith) (infix-facts (tok ts p) (omega arith) .least) in
     record { tree = f .tree; good = f .good; reads = f .reads [] ∙ ap (λ (ws : List Part). operand t ∷ sign mark p ∷ ws) (m .reads) }
 
 -- A tree that keeps the rule and reads as the chain stands there, with the parts ws behind it.
@@ -359,12 +367,12 @@ module _ (ts : List ℕ) (d s e : ℕ) (parts : List Part) (good : array-good ts
     grouping : Grouping ts (9 + d) s e (rows-of parts) parts
     unfolding one-expression _>>_ _>>=_ need
     grouping =
-        let m = made chain in
+        let m = made (valid ts good) chain in
         let all = reads-good (m .tree) (m .reads) (m .good) in
         record {
           tree = m .tree;
           reads = sym (onto-reading (m .tree)) ∙ m .reads;
-          kept = joins-good (m .good);
+          kept = joins-good (valid ts good) (m .good);
           only = λ t w j.
               let q : onto t [] ≡ parts = onto-reading t ∙ w in
               let x : expression ts (9 + d) Zero s (rows-of parts + 0) ≡ read (m .tree) e 0 = all (9 + d) (rows-of parts + 0) 0 (omega arith) refl in

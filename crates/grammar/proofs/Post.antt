@@ -1,35 +1,37 @@
--- A fact of what a reader gives back, where it accepts; and a rule for each thing that a reader can begin with.
+-- A fact of what a reader gives back where it accepts, and that no refusal has the number 0; and a rule for each thing that a reader can begin with.
 use Prim.Native.Nat.{ℕ, zero, suc}
 use mathlib.Core.Path.{_≡_, refl}
 use mathlib.Core.Bool.{Bool, true, false}
+use mathlib.Core.List.{List, [], _∷_}
+use lib.Dec.{ltb}
 use Rattle.grammar.specs.Tree.{Tree}
-use Rattle.grammar.specs.Parsed.{Parsed, refused, read, _>>=_, _>>_, need, build, choose}
+use Rattle.grammar.specs.Parsed.{Parsed, refused, read, Reader, _>>=_, _>>_, need, build, choose, Arm, _⇒_}
 
 abbrev pub Fact : Type 0 → Type 1
 Fact A = A → ℕ → ℕ → Type 0
 
 abbrev pub Post : {A : Type 0} → Fact A → Parsed A → Type 0
-Post Q (refused n p) = Unit {0}
+Post Q (refused n p) = ltb 0 n ≡ true
 Post Q (read t at room) = Q t at room
 
 pub post-then : {A B : Type 0} (Q : Fact A) (R : Fact B) (x : Parsed A) (f : A × ℕ × ℕ → Parsed B) → Post Q x
     → ((t : A) (at room : ℕ) → Q t at room → Post R (f (t, at, room))) → Post R (x >>= f)
 unfolding _>>=_
-post-then Q R (refused n p) f h k = tt
+post-then Q R (refused n p) f h k = h
 post-then Q R (read t at room) f h k = k t at room h
 
 pub post-map : {A : Type 0} (Q R : Fact A) (x : Parsed A) → Post Q x → ((t : A) (at room : ℕ) → Q t at room → R t at room) → Post R x
-post-map Q R (refused n p) h k = tt
+post-map Q R (refused n p) h k = h
 post-map Q R (read t at room) h k = k t at room h
 
 module _ {A : Type 0} (R : Fact A) where
-  pub post-refused : (n p : ℕ) → Post R (refused n p)
-  post-refused n p = tt
+  pub post-refused : (n p : ℕ) → ltb 0 n ≡ true → Post R (refused n p)
+  post-refused n p z = z
 
-  pub post-need : (b : Bool) (n p : ℕ) (x : Parsed A) → (b ≡ true → Post R x) → Post R (need b n p >> x)
+  pub post-need : (b : Bool) (n p : ℕ) (x : Parsed A) → ltb 0 n ≡ true → (b ≡ true → Post R x) → Post R (need b n p >> x)
   unfolding need _>>_
-  post-need true n p x h = h refl
-  post-need false n p x h = tt
+  post-need true n p x z h = h refl
+  post-need false n p x z h = z
 
   pub post-choose : (b : Bool) (x y : Unit {0} → Parsed A) → (b ≡ true → Post R (x tt)) → (b ≡ false → Post R (y tt)) → Post R (choose b x y)
   unfolding choose
@@ -38,5 +40,11 @@ module _ {A : Type 0} (R : Fact A) where
 
 pub post-build : (R : Fact Tree) (t : Tree) (at room : ℕ) → ((m : ℕ) → room ≡ suc m → R t at m) → Post R (build t at room)
 unfolding build
-post-build R t at zero h = tt
+post-build R t at zero h = refl
 post-build R t at (suc m) h = h m refl
+
+-- What holds of each arm of a match.
+infixr 5 _▹_
+pub data Arms {A : Type 0} (P : Reader A → Type 0) : List (Arm A) → Type 0 where
+  end : Arms P []
+  _▹_ : {w : ℕ} {f : Reader A} {arms : List (Arm A)} → P f → Arms P arms → Arms P ((w ⇒ f) ∷ arms)

@@ -13,7 +13,9 @@ use Rattle.grammar.specs.Parsed.{Parsed, refused, read, _>>=_, choose, t
 use Rattle.grammar.specs.Expressions.{Rec, prefix-part, operation, climb, level}
 use Rattle.grammar.specs.Claims.{DivMulMod}
 use Rattle.grammar.proofs.Steps.{goes-on-up}
-use Rattle.grammar.proofs.Turns.{Valid, Safe, in-step, goes-forward, no-end, operation-safe, prefix-part-safe}
+use Rattle.grammar.proofs.Post.{Post}
+use Rattle.grammar.proofs.Turns.{Valid, goes-forward, no-end}
+use Rattle.grammar.proofs.Runs.{Above, Shut, Behind, shut-behind, operation-runs, prefix-part-runs}
 use lib.ListN.{length}
 
 -- Where the loop goes on, it goes on above every lower order too.
@@ -45,52 +47,54 @@ module _ (ts : List ℕ) (rec : Rec) (pre : ℕ) where
   leads-more F s s′ (refused n p) y h l = tt
   leads-more F s s′ (read t c m) y h l = record { turn = l .turn; same = l .same; enough = omega (arith, l .enough) }
 
-  turn-leads : (F s s′ : ℕ) (x : Parsed Tree) (f g : Tree × ℕ × ℕ → Parsed Tree) → s < s′ → Safe ts s′ x
-      → ((t : Tree) (c m : ℕ) → c < length ts → Leads F c (f (t, c, m)) (g (t, c, m))) → Leads (suc F) s (x >>= f) (x >>= g)
+  turn-leads : (F s s′ n : ℕ) (x : Parsed Tree) (f g : Tree × ℕ × ℕ → Parsed Tree) → s < s′ → Post (Behind ts DivMulMod s′ n) x
+      → ((t : Tree) (c m : ℕ) → Behind ts DivMulMod s′ n t c m → Leads F c (f (t, c, m)) (g (t, c, m))) → Leads (suc F) s (x >>= f) (x >>= g)
   unfolding _>>=_
-  turn-leads F s s′ (refused n p) f g lt h k = tt
-  turn-leads F s s′ (read t c m) f g lt h k = leads-more F s c (f (t, c, m)) (g (t, c, m)) (omega (arith, h .0)) (k t c m (h .1))
+  turn-leads F s s′ n (refused e p) f g lt h k = tt
+  turn-leads F s s′ n (read t c m) f g lt h k = leads-more F s c (f (t, c, m)) (g (t, c, m)) (omega (arith, h .run .on)) (k t c m h)
 
   led : (s s′ : ℕ) (x y : Parsed Tree) → s ≤ s′ → Leads turns s′ x y → Begins s x y
   led s s′ (refused n p) y h l = tt
   led s s′ (read t c m) y h l = inr (record { turn = l .turn; same = l .same; enough = omega (arith, l .enough) })
 
-  begins-then : (s : ℕ) (x : Parsed Tree) (f g : Tree × ℕ × ℕ → Parsed Tree) → Safe ts s x
-      → ((t : Tree) (c m : ℕ) → s ≤ c → c < length ts → Begins s (f (t, c, m)) (g (t, c, m))) → Begins s (x >>= f) (x >>= g)
+  begins-then : (s n : ℕ) (x : Parsed Tree) (f g : Tree × ℕ × ℕ → Parsed Tree) → Post (Shut ts s n) x
+      → ((t : Tree) (c m : ℕ) → Shut ts s n t c m → Begins s (f (t, c, m)) (g (t, c, m))) → Begins s (x >>= f) (x >>= g)
   unfolding _>>=_
-  begins-then s (refused n p) f g h k = tt
-  begins-then s (read t c m) f g h k = k t c m (h .0) (h .1)
+  begins-then s n (refused e p) f g h k = tt
+  begins-then s n (read t c m) f g h k = k t c m h
 
-module _ (ts : List ℕ) (v : Valid ts) (rec : Rec) (safe : (pre at room : ℕ) → at < length ts → Safe ts at (rec pre at room))
+module _ (ts : List ℕ) (v : Valid ts) (rec : Rec) (ih : (pre at room : ℕ) → at < length ts → Post (Above ts pre at room) (rec pre at room))
     (pre : ℕ) (small : pre ≤ DivMulMod)
   where
-    climb-leads : (i : ℕ) (t : Tree) (at room : ℕ) → at < length ts → Leads ts rec pre i at (climb ts rec DivMulMod i t at room) (climb ts rec pre i t at room)
+    climb-leads : (i s n : ℕ) (t : Tree) (at room : ℕ) → Behind ts DivMulMod s n t at room
+        → Leads ts rec pre i at (climb ts rec DivMulMod i t at room) (climb ts rec pre i t at room)
     unfolding climb choose
-    climb-leads zero t at room h = tt
-    climb-leads (suc i) t at room h = go (goes-on DivMulMod (tok ts (step ts at))) refl (climb-leads i)
+    climb-leads zero s n t at room b = tt
+    climb-leads (suc i) s n t at room b = go (goes-on DivMulMod (tok ts (step ts at))) refl (climb-leads i (step ts at) n)
       where
         again : (pre : ℕ) → Tree × ℕ × ℕ → Parsed Tree
         again pre (t, at, room) = climb ts rec pre i t at room
 
         go : (b : Bool) → goes-on DivMulMod (tok ts (step ts at)) ≡ b
-            → ((t : Tree) (c m : ℕ) → c < length ts → Leads ts rec pre i c (climb ts rec DivMulMod i t c m) (climb ts rec pre i t c m))
+            → ((t : Tree) (c m : ℕ) → Behind ts DivMulMod (step ts at) n t c m → Leads ts rec pre i c (climb ts rec DivMulMod i t c m) (climb ts rec pre i t c m))
             → Leads ts rec pre (suc i) at (choose b (λ _. operation ts rec t (step ts at) room >>= again DivMulMod) (λ _. read t at room))
             (climb ts rec pre (suc i) t at room)
         go true e more =
             let w : ℕ = tok ts (step ts at) in
             rw (lower pre DivMulMod w small e)
-            (turn-leads ts rec pre i at (step ts at) _ _ _ (goes-forward ts v at h (inr (no-end DivMulMod w e)))
-            (operation-safe ts v rec safe t (step ts at) room (in-step ts v at h)) more)
+            (turn-leads ts rec pre i at (step ts at) n _ _ _ (goes-forward ts v at (b .run .within) (inr (no-end DivMulMod w e)))
+            (operation-runs ts v rec ih DivMulMod s n t at room b e) more)
         go false e more = record { turn = i; same = refl; enough = omega arith }
 
     pub level-begins : (s room : ℕ) → s < length ts → Begins ts rec pre s (level ts rec DivMulMod s room) (level ts rec pre s room)
     unfolding level next-is is choose
     level-begins s room h =
-        begins-then ts rec pre s (prefix-part ts rec s room) _ _ (prefix-part-safe ts v rec safe s room h)
-        (λ t c m le lt. go t c m le lt (eqb (tok ts (step ts c)) SSemiColon) refl)
+        begins-then ts rec pre s room (prefix-part ts rec s room) _ _ (prefix-part-runs ts v rec ih s room h)
+        (λ t c m q. go t c m q (eqb (tok ts (step ts c)) SSemiColon) refl)
       where
-        go : (t : Tree) (c m : ℕ) → s ≤ c → c < length ts → (b : Bool) → eqb (tok ts (step ts c)) SSemiColon ≡ b
+        go : (t : Tree) (c m : ℕ) → Shut ts s room t c m → (b : Bool) → eqb (tok ts (step ts c)) SSemiColon ≡ b
             → Begins ts rec pre s (choose b (λ _. read t (step ts c) m) (λ _. climb ts rec DivMulMod turns t c m))
             (choose b (λ _. read t (step ts c) m) (λ _. climb ts rec pre turns t c m))
-        go t c m le lt true e = inl (refl, eqb-true _ _ e)
-        go t c m le lt false e = led ts rec pre s c (climb ts rec DivMulMod turns t c m) (climb ts rec pre turns t c m) le (climb-leads turns t c m lt)
+        go t c m q true e = inl (refl, eqb-true _ _ e)
+        go t c m q false e =
+            led ts rec pre s c (climb ts rec DivMulMod turns t c m) (climb ts rec pre turns t c m) (q .run .on) (climb-leads turns s room t c m (shut-behind ts DivMulMod q))

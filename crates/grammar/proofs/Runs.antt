@@ -8,21 +8,24 @@ use native.Mathlib.Omega.{arith}
 use native.Mathlib.Decide.{decLt}
 use native.Mathlib.Nat.{add-mod-right, div-eq-of-lt, mod-eq-of-lt}
 use lib.Dec.{eqb}
-use Rattle.grammar.specs.Words.{SSemiColon, tok, step, is, next-is, Zero, order, infix-of, goes-on}
-use Rattle.grammar.specs.Tree.{Tree, infixed, node, Trees, nil, _▸_, sizes, join, leaf, flagged, flag, Grouped, is-call}
+use lib.ListN.{length, List·getD-eq-default}
+use Rattle.grammar.specs.Words.{SSemiColon, SComma, SDot, EOF, tok, step, is, next-is, Zero, order, infix-of, goes-on}
+use Rattle.grammar.specs.Tree.{Tree, infixed, node, Trees, nil, _▸_, sizes, join, leaf, flagged, flag, Thread, Async, Grouped, is-call}
 use Rattle.grammar.specs.Tree as tree
-use Rattle.grammar.specs.Parsed.{Parsed, Reader, _>>=_, build, match, turns}
+use Rattle.grammar.specs.Parsed.{Parsed, Reader, read, _>>=_, build, Arm, match, turns}
 use Rattle.grammar.specs.Expressions.{Rec, get-identifier, dots, dot-expression, no-prefix, entries, list-expr, pair, hash-literal, array}
 use Rattle.grammar.specs.Expressions.{lambda, started, prefix, sub-expression, command, shell, prefix-part, infix-expression, suffix-expression}
 use Rattle.grammar.specs.Expressions.{call, index, operation, climb, level, expression}
 use Rattle.grammar.specs.Claims.{Binds, EveryOf, KeepsBut}
-use Rattle.grammar.proofs.Post.{Fact, Post, post-then, post-map, post-refused, post-need, post-choose, post-build}
+use Rattle.grammar.proofs.Post.{Fact, Post, post-then, post-map, post-refused, post-need, post-choose, post-build, Arms, end, _▹_}
 use Rattle.grammar.proofs.Steps.{step-on, step-one, infix-order, others, halts, goes, infix-facts}
+use Rattle.grammar.proofs.Turns.{Valid, no-end, in-step, goes-forward, behind, enough, expression-eof}
 use borrow.Author.Tests.{lt-ltb, eqb-true}
 
 -- From the place s with n rows the trees us were read, in this order: now c is current and m rows are left.
 pub record Run (ts : List ℕ) (s n : ℕ) (us : Trees) (c m : ℕ) : Type 0 where
   pub on : s ≤ c
+  pub within : c < length ts
   pub spent : sizes us + m ≡ n
   pub kept : EveryOf (KeepsBut ts) us
 
@@ -76,10 +79,14 @@ grouped-least mark = go (eqb (mark / 256 % 2) 0) refl (decLt mark 256)
     go false e (yes lt) = let z : mark / 256 ≡ 0 = div-eq-of-lt lt in let f : true ≡ false = rw z at e in let n : _≡_ {A = ℕ} 0 1 = cc in absurd (omega arith)
     go false e (no ge) = omega arith
 
-pub join-nil : (us : Trees) → join us nil ≡ us
+join-nil : (us : Trees) → join us nil ≡ us
 unfolding join
 join-nil nil = refl
 join-nil (t ▸ us) = rw (join-nil us)
+
+-- The mark of an infix row has no flag in it.
+sign : {i : ℕ} → 0 < i → i ≤ 23 → i ≡ suc ((i - 1) % 256)
+sign {i} h k = let lt : i - 1 < 256 = omega arith in rw (mod-eq-of-lt lt) (omega arith)
 
 -- What a reader has read: one tree, or several.
 abbrev pub single : Tree → Trees
@@ -88,33 +95,46 @@ single t = t ▸ nil
 abbrev pub listed : Trees → Trees
 listed us = us
 
+-- The cursor went from a to b: never back, and never out of the array.
+pub record Ahead (ts : List ℕ) (a b : ℕ) : Type 0 where
+  pub on : a ≤ b
+  pub stays : a < length ts → b < length ts
+
 module _ (ts : List ℕ) where
-  pub start : (at room : ℕ) → Run ts at room nil at room
-  start at room = record { on = omega arith; spent = omega arith; kept = tt }
+  pub start : (at room : ℕ) → at < length ts → Run ts at room nil at room
+  start at room h = record { on = omega arith; within = h; spent = omega arith; kept = tt }
 
-  pub up₀ : (a : ℕ) → a ≤ a
-  up₀ a = omega arith
+  pub up₀ : (a : ℕ) → Ahead ts a a
+  up₀ a = record { on = omega arith; stays = λ h. h }
 
-  pub up : (a b : ℕ) → a ≤ b → a ≤ step ts b
-  up a b h = omega (arith, step-on ts b)
+  pub up : (a b : ℕ) → Ahead ts a b → Ahead ts a (step ts b)
+  up a b h = record { on = omega (arith, h .on, step-on ts b); stays = λ k. in-step ts b (h .stays k) }
 
-  pub both : {s n c m at c′ m′ : ℕ} {us vs : Trees} → Run ts s n us c m → c ≤ at → Run ts at m vs c′ m′ → Run ts s n (join us vs) c′ m′
-  both {us} {vs} x h y =
-      record { on = omega (arith, x .on, y .on); spent = omega (arith, x .spent, y .spent, sizes-join us vs); kept = every-join (KeepsBut ts) us vs (x .kept) (y .kept) }
+  pub both : {s n c m at c′ m′ : ℕ} {us vs : Trees} → Run ts s n us c m → Ahead ts c at → Run ts at m vs c′ m′ → Run ts s n (join us vs) c′ m′
+  both {us} {vs} x h y = record {
+    on = omega (arith, x .on, h .on, y .on);
+    within = y .within;
+    spent = omega (arith, x .spent, y .spent, sizes-join us vs);
+    kept = every-join (KeepsBut ts) us vs (x .kept) (y .kept);
+  }
 
-  pub later : {s n c m c′ : ℕ} {us : Trees} → Run ts s n us c m → c ≤ c′ → Run ts s n us c′ m
-  later x h = record { on = omega (arith, x .on); spent = x .spent; kept = x .kept }
+  pub later : {s n c m c′ : ℕ} {us : Trees} → Run ts s n us c m → Ahead ts c c′ → Run ts s n us c′ m
+  later x h = record { on = omega (arith, x .on, h .on); within = h .stays (x .within); spent = x .spent; kept = x .kept }
+
+  -- The same said from an earlier place.
+  pub from : {s s′ n c m : ℕ} {us : Trees} → s ≤ s′ → Run ts s′ n us c m → Run ts s n us c m
+  from h x = record { on = omega (arith, x .on); within = x .within; spent = x .spent; kept = x .kept }
 
   -- The rule for a reader that begins with x, which reads trees: behind all that was read before.
   abbrev pub Hands : {B : Type 0} (A : Type 0) (trees : B → Trees) (at room : ℕ) (x : Parsed B) → Type 1
-  Hands {B} A trees at room x = (R : Fact A) (f : B × ℕ × ℕ → Parsed A) (s n c : ℕ) (us : Trees) → Run ts s n us c room → c ≤ at
+  Hands {B} A trees at room x = (R : Fact A) (f : B × ℕ × ℕ → Parsed A) (s n c : ℕ) (us : Trees) → Run ts s n us c room → Ahead ts c at
       → ((b : B) (c m : ℕ) → Run ts s n (join us (trees b)) c m → Post R (f (b, c, m))) → Post R (x >>= f)
 
-  pub hands : {B : Type 0} (A : Type 0) (trees : B → Trees) (at room : ℕ) (x : Parsed B) → Post (λ b. Run ts at room (trees b)) x → Hands A trees at room x
-  hands A trees at room x p R f s n c us r h k = post-then _ R x f p (λ b c m q. k b c m (both r h q))
+  pub hands : {B : Type 0} (A : Type 0) (trees : B → Trees) (at room : ℕ) (x : Parsed B) → (at < length ts → Post (λ b. Run ts at room (trees b)) x) → Hands A trees at room x
+  hands A trees at room x p R f s n c us r h k = post-then _ R x f (p (h .stays (r .within))) (λ b c m q. k b c m (both r h q))
 
   -- The rule for a reader that ends in a row: what was read is what stands in its slots.
-  pub row-of : {s n c room : ℕ} {us : Trees} (k mark p at : ℕ) (c0 c1 c2 c3 : Trees) → Run ts s n us c room → c ≤ at → us ≡ join c0 (join c1 (join c2 c3))
+  pub row-of : {s n c room : ℕ} {us : Trees} (k mark p at : ℕ) (c0 c1 c2 c3 : Trees) → Run ts s n us c room → Ahead ts c at → us ≡ join c0 (join c1 (join c2 c3))
       → eqb k 12 ≡ false → Post (Shut ts s n) (build (node k mark p c0 c1 c2 c3) at room)
   row-of k mark p at c0 c1 c2 c3 x h e other = post-build _ (node k mark p c0 c1 c2 c3) at _ (λ m q.
       let (a, bcd) = every-split (KeepsBut ts) c0 (join c1 (join c2 c3)) (rw e at (x .kept)) in
@@ -123,190 +143,248 @@ module _ (ts : List ℕ) where
       let z = rw e at (x .spent) in
       record {
         run = record {
-          on = omega (arith, x .on);
+          on = omega (arith, x .on, h .on);
+          within = h .stays (x .within);
           spent = omega (arith, z, sizes-join c0 (join c1 (join c2 c3)), sizes-join c1 (join c2 c3), sizes-join c2 c3);
           kept = ((other, a, b, c′, d), tt);
         };
         shut = λ n. tt;
       })
 
-  pub shut-hands : (A : Type 0) (at room : ℕ) (x : Parsed Tree) → Post (Shut ts at room) x → Hands A single at room x
-  shut-hands A at room x p = hands A single at room x (post-map _ _ x p (λ t c m h. h .run))
+  -- The same where a list stands in the last slot.
+  pub row-list : {s n c room : ℕ} {us : Trees} (k mark p at : ℕ) (c0 c1 c2 c3 : Trees) → Run ts s n us c room → Ahead ts c at
+      → join us nil ≡ join c0 (join c1 (join c2 c3)) → eqb k 12 ≡ false → Post (Shut ts s n) (build (node k mark p c0 c1 c2 c3) at room)
+  row-list {us} k mark p at c0 c1 c2 c3 x h e other = row-of k mark p at c0 c1 c2 c3 x h (rw (join-nil us) at e) other
+
+  -- A reader of one tree that is no infix row without brackets.
+  abbrev pub Reads : Reader Tree → Type 0
+  Reads f = (at room : ℕ) → at < length ts → Post (Shut ts at room) (f at room)
+
+  read-runs : (f : Reader Tree) → Reads f → (at room : ℕ) → at < length ts → Post (λ t. Run ts at room (t ▸ nil)) (f at room)
+  read-runs f p at room h = post-map _ _ (f at room) (p at room h) (λ t c m q. q .run)
+
+  pub shut-hands : (A : Type 0) (f : Reader Tree) (at room : ℕ) → Reads f → Hands A single at room (f at room)
+  shut-hands A f at room p = hands A single at room (f at room) (read-runs f p at room)
+
+  -- A reader that starts a step on, and a match of readers.
+  pub begun-at : (f : Reader Tree) → Reads f → Reads (λ at. f (step ts at))
+  begun-at f p at room h = post-map _ _ (f (step ts at) room) (p (step ts at) room (in-step ts at h)) (λ t c m q.
+      record { run = from (step-on ts at) (q .run); shut = q .shut })
+
+  pub match-reads : {arms : List (Arm Tree)} (w : ℕ) (other : Reader Tree) → Arms Reads arms → Reads other → Reads (match w arms other)
+  unfolding match
+  match-reads w other end h at room k = h at room k
+  match-reads w other (r ▹ rs) h at room k = post-choose _ _ _ _ (λ e. r at room k) (λ e. match-reads w other rs h at room k)
 
   -- A call that is started, and a tree in brackets, get their flags.
   flag-call : (f : ℕ) {s n c m : ℕ} {t : Tree} → Run ts s n (t ▸ nil) c m → is-call t ≡ true → Shut ts s n (flagged f t) c m
   unfolding flagged is-call
   flag-call f {t = infixed mark p l r} x e = let n : _≡_ {A = ℕ} 0 1 = cc in absurd (omega arith)
-  flag-call f {t = node k mark p c0 c1 c2 c3} x e = record { run = record { on = x .on; spent = x .spent; kept = x .kept }; shut = λ n. tt }
+  flag-call f {t = node k mark p c0 c1 c2 c3} x e = record { run = record { on = x .on; within = x .within; spent = x .spent; kept = x .kept }; shut = λ n. tt }
 
-  flag-group : {s n c c′ m : ℕ} {t : Tree} → Run ts s n (t ▸ nil) c m → c ≤ c′ → Shut ts s n (flagged Grouped t) c′ m
+  flag-group : {s n c c′ m : ℕ} {t : Tree} → Run ts s n (t ▸ nil) c m → Ahead ts c c′ → Shut ts s n (flagged Grouped t) c′ m
   unfolding flagged
   flag-group {t = infixed mark p l r} x h =
       let k = x .kept .0 .0 in
       record {
         run = record {
-          on = omega (arith, x .on);
+          on = omega (arith, x .on, h .on);
+          within = h .stays (x .within);
           spent = x .spent;
           kept = ((record { sign = k .sign ∙ ap suc (sym (grouped-mod mark)); looser = k .looser; tighter = k .tighter }, x .kept .0 .1, x .kept .0 .2), tt);
         };
         shut = λ n lt. absurd (omega (arith, grouped-least mark));
       }
-  flag-group {t = node k mark p c0 c1 c2 c3} x h = record { run = record { on = omega (arith, x .on); spent = x .spent; kept = x .kept }; shut = λ n. tt }
+  flag-group {t = node k mark p c0 c1 c2 c3} x h = record { run = record { on = omega (arith, x .on, h .on); within = h .stays (x .within); spent = x .spent; kept = x .kept }; shut = λ n. tt }
 
-  leaf-runs : (k mark at room : ℕ) → eqb k 12 ≡ false → Post (Shut ts at room) (build (leaf k mark at) at room)
+  -- A row that is no infix is behind nothing that it would have to bind.
+  pub shut-behind : (pre : ℕ) {s n c m : ℕ} {t : Tree} → Shut ts s n t c m → Behind ts pre s n t c m
+  shut-behind pre q = record { run = q .run; root = q .shut (suc pre); left = inl (q .shut _) }
+
+  post-behind : (pre s n : ℕ) (x : Parsed Tree) → Post (Shut ts s n) x → Post (Behind ts pre s n) x
+  post-behind pre s n x h = post-map _ _ x h (λ t c m. shut-behind pre)
+
+  -- The left side of an infix row, whose operator comes next.
+  looser : (t : Tree) (c : ℕ) → Binds ts (infix-order (tok ts (step ts c))) t ⊎ (tok ts c ≡ SSemiColon) → 0 < infix-of (tok ts (step ts c))
+      → Binds ts (order (tok ts (step ts c))) t ⊎ (tok ts (step ts c - 1) ≡ SSemiColon)
+  looser t c (inl h) i = inl (rw (lt-ltb 0 (infix-of (tok ts (step ts c))) i) at h)
+  looser t c (inr h) i =
+      let e : step ts c ≡ c + 1 = step-one ts c _ (λ (q : tok ts c ≡ tok ts (step ts c)). omega (arith, others .semicolon, ap infix-of (sym h ∙ q))) refl in
+      let e′ : step ts c - 1 ≡ c = omega arith in
+      inr (rw e′ h)
+
+  leaf-runs : (k mark : ℕ) → eqb k 12 ≡ false → Reads (λ at. build (leaf k mark at) at)
   unfolding join
-  leaf-runs k mark at room other = let r = start at room in search (row-of, up₀)
+  leaf-runs k mark other at room h = let r = start at room h in search (row-of, up₀)
 
-  identifier-runs : (k at room : ℕ) → eqb k 12 ≡ false → Post (Shut ts at room) (get-identifier ts (leaf k 0) at room)
+  identifier-runs : (k : ℕ) → eqb k 12 ≡ false → Reads (get-identifier ts (leaf k 0))
   unfolding get-identifier
-  identifier-runs k at room other = search (post-need, leaf-runs)
+  identifier-runs k other at room h = search (post-need, leaf-runs)
 
-  name-then : (A : Type 0) (at room : ℕ) → Hands A single at room (get-identifier ts tree.name at room)
-  name-then A at room = shut-hands A at room _ (identifier-runs 18 at room refl)
+  no-prefix-runs : Reads (no-prefix ts)
+  unfolding no-prefix
+  no-prefix-runs at room h = search post-choose
 
-  dots-runs : (i : ℕ) (s n : ℕ) (names : Trees) (at room : ℕ) → Run ts s n names at room → Post (Run ts s n) (dots ts i names at room)
-  unfolding dots
-  dots-runs zero s n names at room r = tt
-  dots-runs (suc i) s n names at room r = let ih = dots-runs i s n in search (post-choose, name-then, up, up₀, ih) depth 9
+  module _ (v : Valid ts) where
+    dots-runs : (i s n : ℕ) (names : Trees) (at room : ℕ) → Run ts s n names at room → length ts ≤ i + at → Post (Run ts s n) (dots ts i names at room)
+    unfolding dots
+    dots-runs zero s n names at room r f = absurd (omega (arith, r .within))
+    dots-runs (suc i) s n names at room r f = post-choose _ _ _ _
+        (λ e.
+        let on : Ahead ts at (step ts (step ts at)) = up _ _ (up _ _ (up₀ at)) in
+        post-then _ _ _ _ (identifier-runs 18 refl (step ts (step ts at)) room (on .stays (r .within)))
+        (λ t c m q. dots-runs i s n (join names (t ▸ nil)) c m (both r on (q .run)) (omega (arith, q .run .on, behind ts v at SDot (r .within) refl e))))
+        (λ e. r)
 
-  dots-then : (A : Type 0) (at room : ℕ) → Hands A listed at room (dots ts turns nil at room)
-  dots-then A at room = hands A listed at room _ (dots-runs turns at room nil at room (start at room))
+    dots-then : (A : Type 0) (at room : ℕ) → Hands A listed at room (dots ts turns nil at room)
+    dots-then A at room = hands A listed at room _ (λ h. dots-runs turns at room nil at room (start at room h) (enough ts v at))
 
-  ruleset parts = (post-refused, post-need, post-choose, row-of, name-then, dots-then, join-nil, up₀, up)
+    ruleset parts = (post-refused, post-need, post-choose, row-of, row-list, dots-then, up₀, up)
 
-  dot-runs : (at room : ℕ) → Post (Shut ts at room) (dot-expression ts at room)
-  unfolding dot-expression join
-  dot-runs at room = post-then _ _ _ _ (identifier-runs 2 at room refl) (λ t c m h. let r = h .run in search parts depth 9)
+    dot-runs : Reads (dot-expression ts)
+    unfolding dot-expression join
+    dot-runs at room h = post-then _ _ _ _ (identifier-runs 2 refl at room h) (λ t c m q. let r = q .run in search parts depth 9)
 
-  module _ (rec : Rec) (ih : (pre at room : ℕ) → Post (Above ts pre at room) (rec pre at room)) where
-    pub rec-then : (A : Type 0) (pre at room : ℕ) → Hands A single at room (rec pre at room)
-    rec-then A pre at room = hands A single at room _ (post-map _ _ (rec pre at room) (ih pre at room) (λ t c m h. h .run))
+    module _ (rec : Rec) (ih : (pre at room : ℕ) → at < length ts → Post (Above ts pre at room) (rec pre at room)) where
+      rec-runs : (pre at room : ℕ) → at < length ts → Post (λ t. Run ts at room (t ▸ nil)) (rec pre at room)
+      rec-runs pre at room h = post-map _ _ (rec pre at room) (ih pre at room h) (λ t c m q. q .run)
 
-    entries-runs : (entry : Reader Tree) → ((A : Type 0) (at room : ℕ) → Hands A single at room (entry at room)) → (i s n : ℕ) (list : Trees) (at room : ℕ)
-        → Run ts s n list at room → Post (Run ts s n) (entries ts rec entry i list at room)
-    unfolding entries
-    entries-runs entry entry-then zero s n list at room r = tt
-    entries-runs entry entry-then (suc i) s n list at room r = let more = entries-runs entry entry-then i s n in search (more, post-choose, up, up₀) depth 9
+      pub rec-then : (A : Type 0) (pre at room : ℕ) → Hands A single at room (rec pre at room)
+      rec-then A pre at room = hands A single at room _ (rec-runs pre at room)
 
-    list-runs : (at room : ℕ) → Post (Run ts at room) (list-expr ts rec at room)
-    unfolding list-expr join
-    list-runs at room =
-        let r = start at room in
-        let more = entries-runs (rec Zero) (λ A. rec-then A Zero) turns at room in
-        search (more, post-choose, rec-then, up₀, up) depth 9
+      entries-runs : (entry : Reader Tree) → ((at room : ℕ) → at < length ts → Post (λ t. Run ts at room (t ▸ nil)) (entry at room)) → (i s n : ℕ) (list : Trees)
+          (at room : ℕ) → Run ts s n list at room → length ts ≤ i + at → Post (Run ts s n) (entries ts rec entry i list at room)
+      unfolding entries
+      entries-runs entry h zero s n list at room r f = absurd (omega (arith, r .within))
+      entries-runs entry h (suc i) s n list at room r f = post-choose _ _ _ _
+          (λ e.
+          let on : Ahead ts at (step ts (step ts at)) = up _ _ (up _ _ (up₀ at)) in
+          post-then _ _ _ _ (h (step ts (step ts at)) room (on .stays (r .within)))
+          (λ t c m q. entries-runs entry h i s n (join list (t ▸ nil)) c m (both r on q) (omega (arith, q .on, behind ts v at SComma (r .within) refl e))))
+          (λ e. r)
 
-    pub list-then : (A : Type 0) (at room : ℕ) → Hands A listed at room (list-expr ts rec at room)
-    list-then A at room = hands A listed at room _ (list-runs at room)
+      list-runs : (at room : ℕ) → at < length ts → Post (Run ts at room) (list-expr ts rec at room)
+      unfolding list-expr join
+      list-runs at room h =
+          let r = start at room h in
+          post-choose _ _ _ _ (λ e. r) (λ e. rec-then _ Zero _ _ _ _ at room at nil r (up _ _ (up₀ at))
+          (λ t c m q. entries-runs (rec Zero) (rec-runs Zero) turns at room (t ▸ nil) c m q (enough ts v c)))
 
-    ruleset walk = (parts, rec-then, list-then)
+      pub list-then : (A : Type 0) (at room : ℕ) → Hands A listed at room (list-expr ts rec at room)
+      list-then A at room = hands A listed at room _ (list-runs at room)
 
-    pair-runs : (at room : ℕ) → Post (Shut ts at room) (pair ts rec at room)
-    unfolding pair join
-    pair-runs at room = let r = start at room in search walk depth 9
+      ruleset walk = (parts, rec-then, list-then)
 
-    pair-then : (A : Type 0) (at room : ℕ) → Hands A single at room (pair ts rec at room)
-    pair-then A at room = shut-hands A at room _ (pair-runs at room)
+      pair-runs : Reads (pair ts rec)
+      unfolding pair join
+      pair-runs at room h = let r = start at room h in search walk depth 9
 
-    pairs-then : {A : Type 0} (R : Fact A) (f : Trees × ℕ × ℕ → Parsed A) (s n : ℕ) (list : Trees) (at room : ℕ) → Run ts s n list at room
-        → ((pairs : Trees) (c m : ℕ) → Run ts s n pairs c m → Post R (f (pairs, c, m))) → Post R (entries ts rec (pair ts rec) turns list at room >>= f)
-    pairs-then R f s n list at room r k = post-then _ R _ f (entries-runs (pair ts rec) pair-then turns s n list at room r) k
+      pair-then : (A : Type 0) (at room : ℕ) → Hands A single at room (pair ts rec at room)
+      pair-then A at room = shut-hands A (pair ts rec) at room pair-runs
 
-    hash-runs : (at room : ℕ) → Post (Shut ts at room) (hash-literal ts rec at room)
-    unfolding hash-literal join
-    hash-runs at room = let r = start at room in search (walk, pair-then, pairs-then) depth 12
+      pairs-then : {A : Type 0} (R : Fact A) (f : Trees × ℕ × ℕ → Parsed A) (s n : ℕ) (list : Trees) (at room : ℕ) → Run ts s n list at room
+          → ((pairs : Trees) (c m : ℕ) → Run ts s n pairs c m → Post R (f (pairs, c, m))) → Post R (entries ts rec (pair ts rec) turns list at room >>= f)
+      pairs-then R f s n list at room r k =
+          post-then _ R _ f (entries-runs (pair ts rec) (read-runs (pair ts rec) pair-runs) turns s n list at room r (enough ts v at)) k
 
-    array-runs : (at room : ℕ) → Post (Shut ts at room) (array ts rec at room)
-    unfolding array join
-    array-runs at room = let r = start at room in search walk depth 12
+      hash-runs : Reads (hash-literal ts rec)
+      unfolding hash-literal join
+      hash-runs at room h = let r = start at room h in search (walk, pair-then, pairs-then) depth 12
 
-    lambda-runs : (at room : ℕ) → Post (Shut ts at room) (lambda ts rec at room)
-    unfolding lambda join
-    lambda-runs at room = let r = start at room in search walk depth 12
+      array-runs : Reads (array ts rec)
+      unfolding array join
+      array-runs at room h = let r = start at room h in search walk depth 12
 
-    prefix-runs : (mark at room : ℕ) → Post (Shut ts at room) (prefix ts rec mark at room)
-    unfolding prefix join
-    prefix-runs mark at room = let r = start at room in search walk depth 12
+      lambda-runs : Reads (lambda ts rec)
+      unfolding lambda join
+      lambda-runs at room h = let r = start at room h in search walk depth 12
 
-    shell-runs : (at room : ℕ) → Post (Shut ts at room) (shell ts rec at room)
-    unfolding shell command join
-    shell-runs at room = let r = start at room in search walk depth 12
+      prefix-runs : (mark : ℕ) → Reads (prefix ts rec mark)
+      unfolding prefix join
+      prefix-runs mark at room h = let r = start at room h in search walk depth 12
 
-    started-runs : (f at room : ℕ) → Post (Shut ts at room) (started ts rec f at room)
-    unfolding started join
-    started-runs f at room = let r = start at room in search (walk, flag-call) depth 9
+      shell-runs : Reads (shell ts rec)
+      unfolding shell command join
+      shell-runs at room h = let r = start at room h in search walk depth 12
 
-    sub-runs : (at room : ℕ) → Post (Shut ts at room) (sub-expression ts rec at room)
-    unfolding sub-expression join
-    sub-runs at room = let r = start at room in search (walk, flag-group) depth 9
+      started-runs : (f : ℕ) → Reads (started ts rec f)
+      unfolding started join
+      started-runs f at room h = let r = start at room h in search (walk, flag-call) depth 9
 
-    no-prefix-runs : (at room : ℕ) → Post (Shut ts at room) (no-prefix ts at room)
-    unfolding no-prefix
-    no-prefix-runs at room = search parts
+      sub-runs : Reads (sub-expression ts rec)
+      unfolding sub-expression join
+      sub-runs at room h = let r = start at room h in search (walk, flag-group) depth 9
 
-    prefix-part-runs : (at room : ℕ) → Post (Shut ts at room) (prefix-part ts rec at room)
-    unfolding prefix-part match join
-    prefix-part-runs at room =
-        search (post-choose, leaf-runs, dot-runs, lambda-runs, started-runs, array-runs, hash-runs, prefix-runs, sub-runs, shell-runs, no-prefix-runs) depth 25
+      pub prefix-part-runs : Reads (prefix-part ts rec)
+      unfolding prefix-part
+      prefix-part-runs at room h = match-reads (tok ts at) (no-prefix ts)
+          (dot-runs ▹ leaf-runs 3 0 refl ▹ leaf-runs 4 0 refl ▹ leaf-runs 5 0 refl ▹ leaf-runs 6 0 refl ▹ leaf-runs 7 1 refl ▹ leaf-runs 7 0 refl ▹ lambda-runs
+          ▹ leaf-runs 1 0 refl ▹ started-runs Thread ▹ started-runs Async ▹ array-runs ▹ hash-runs ▹ prefix-runs 0 ▹ prefix-runs 1 ▹ prefix-runs 2 ▹ prefix-runs 3
+          ▹ sub-runs ▹ shell-runs ▹ end)
+          no-prefix-runs at room h
 
-    module _ (pre s n : ℕ) (t : Tree) (c m : ℕ) (b : Behind ts pre s n t c m) where
-      -- A row that is no infix is behind nothing that it would have to bind.
-      shut-behind : (x : Parsed Tree) → Post (Shut ts s n) x → Post (Behind ts pre s n) x
-      shut-behind x h = post-map _ _ x h (λ t c m q. record { run = q .run; root = q .shut (suc pre); left = inl (q .shut _) })
+      module _ (pre s n : ℕ) (t : Tree) (c m : ℕ) (b : Behind ts pre s n t c m) where
+        infix-runs : 0 < infix-of (tok ts (step ts c)) → pre < order (tok ts (step ts c))
+            → Post (Behind ts pre (step ts c) n) (infix-expression ts rec t (step ts c) m)
+        unfolding infix-expression
+        infix-runs i lt = post-then _ _ _ _ (ih (order (tok ts (step ts c))) (step ts (step ts c)) m (in-step ts _ (in-step ts c (b .run .within)))) (λ r c′ m′ a.
+            post-build _ _ c′ m′ (λ m″ e. record {
+              run = record {
+                on = omega (arith, a .run .on, step-on ts (step ts c));
+                within = a .run .within;
+                spent = omega (arith, b .run .spent, a .run .spent);
+                kept = ((record { sign = sign i (infix-facts _ i .mark); looser = looser t c (b .left) i; tighter = a .root }, b .run .kept .0, a .run .kept .0), tt);
+              };
+              root = λ small. lt;
+              left = ⊎-map (λ h small. h) (λ h. h) (a .stops);
+            }))
 
-      -- The left side of an infix row, whose operator comes next.
-      looser : 0 < infix-of (tok ts (step ts c)) → Binds ts (order (tok ts (step ts c))) t ⊎ (tok ts (step ts c - 1) ≡ SSemiColon)
-      looser i = go (b .left)
-        where
-          go : Binds ts (infix-order (tok ts (step ts c))) t ⊎ (tok ts c ≡ SSemiColon)
-              → Binds ts (order (tok ts (step ts c))) t ⊎ (tok ts (step ts c - 1) ≡ SSemiColon)
-          go (inl h) = inl (rw (lt-ltb 0 (infix-of (tok ts (step ts c))) i) at h)
-          go (inr h) =
-              let e : step ts c ≡ c + 1 = step-one ts c _ (λ (q : tok ts c ≡ tok ts (step ts c)).
-              omega (arith, others .semicolon, ap infix-of (sym h ∙ q))) refl in
-              let e′ : step ts c - 1 ≡ c = omega arith in
-              inr (rw e′ h)
+        pub operation-runs : goes-on pre (tok ts (step ts c)) ≡ true → Post (Behind ts pre (step ts c) n) (operation ts rec t (step ts c) m)
+        unfolding operation match suffix-expression call index join
+        operation-runs g =
+            let r : Run ts (step ts c) n (t ▸ nil) (step ts c) m = record {
+              on = omega arith;
+              within = in-step ts c (b .run .within);
+              spent = b .run .spent;
+              kept = b .run .kept;
+            } in
+            post-choose _ _ _ _ (λ e. search (post-behind, walk)) λ e₁.
+            post-choose _ _ _ _ (λ e. search (post-behind, walk)) λ e₂.
+            post-choose _ _ _ _ (λ e. search (post-behind, walk) depth 9) λ e₃.
+            post-choose _ _ _ _ (λ e. search (post-behind, walk) depth 9) λ e₄.
+            let f = goes pre (tok ts (step ts c)) g e₁ e₂ e₃ e₄ in
+            infix-runs (f .0) (f .1)
 
-      sign : {i : ℕ} → 0 < i → i ≤ 23 → i ≡ suc ((i - 1) % 256)
-      sign {i} h k = let lt : i - 1 < 256 = omega arith in rw (mod-eq-of-lt lt) (omega arith)
+      climb-runs : (pre i s n : ℕ) (t : Tree) (c m : ℕ) → Behind ts pre s n t c m → length ts ≤ i + c → Post (Above ts pre s n) (climb ts rec pre i t c m)
+      unfolding climb
+      climb-runs pre zero s n t c m b f = absurd (omega (arith, b .run .within))
+      climb-runs pre (suc i) s n t c m b f = post-choose _ _ _ _
+          (λ g.
+          let lt : c < step ts c = goes-forward ts v c (b .run .within) (inr (no-end pre (tok ts (step ts c)) g)) in
+          post-then _ _ _ _ (operation-runs pre s n t c m b g) (λ t′ c′ m′ q. climb-runs pre i s n t′ c′ m′
+          (record { run = from (omega (arith, b .run .on)) (q .run); root = q .root; left = q .left }) (omega (arith, q .run .on))))
+          (λ g. record { run = b .run; root = b .root; stops = inl (halts pre (tok ts (step ts c)) g) })
 
-      infix-runs : 0 < infix-of (tok ts (step ts c)) → pre < order (tok ts (step ts c)) → Post (Behind ts pre s n) (infix-expression ts rec t (step ts c) m)
-      unfolding infix-expression
-      infix-runs i lt = post-then _ _ _ _ (ih (order (tok ts (step ts c))) (step ts (step ts c)) m) (λ r c′ m′ a.
-          post-build _ _ c′ m′ (λ m″ e. record {
-            run = record {
-              on = omega (arith, b .run .on, a .run .on, step-on ts c, step-on ts (step ts c));
-              spent = omega (arith, b .run .spent, a .run .spent);
-              kept = ((record { sign = sign i (infix-facts _ i .mark); looser = looser i; tighter = a .root }, b .run .kept .0, a .run .kept .0), tt);
-            };
-            root = λ small. lt;
-            left = ⊎-map (λ h small. h) (λ h. h) (a .stops);
-          }))
+      level-runs : (pre at room : ℕ) → at < length ts → Post (Above ts pre at room) (level ts rec pre at room)
+      unfolding level next-is is
+      level-runs pre at room h = post-then _ _ _ _ (prefix-part-runs at room h) (λ t c m q. post-choose _ _ _ _
+          (λ e. record { run = later (q .run) (up _ _ (up₀ c)); root = q .shut (suc pre); stops = inr (eqb-true _ _ e) })
+          (λ e. climb-runs pre turns at room t c m (shut-behind pre q) (enough ts v c)))
 
-      operation-runs : goes-on pre (tok ts (step ts c)) ≡ true → Post (Behind ts pre s n) (operation ts rec t (step ts c) m)
-      unfolding operation match suffix-expression call index join
-      operation-runs g =
-          let r = b .run in
-          post-choose _ _ _ _ (λ e. search (shut-behind, walk)) λ e₁.
-          post-choose _ _ _ _ (λ e. search (shut-behind, walk)) λ e₂.
-          post-choose _ _ _ _ (λ e. search (shut-behind, walk) depth 9) λ e₃.
-          post-choose _ _ _ _ (λ e. search (shut-behind, walk) depth 9) λ e₄.
-          let f = goes pre (tok ts (step ts c)) g e₁ e₂ e₃ e₄ in
-          infix-runs (f .0) (f .1)
+    pub expression-runs : (d pre at room : ℕ) → at < length ts → Post (Above ts pre at room) (expression ts d pre at room)
+    unfolding expression
+    expression-runs zero pre at room h = refl
+    expression-runs (suc d) pre at room h = level-runs (expression ts d) (expression-runs d) pre at room h
 
-    climb-runs : (pre i s n : ℕ) (t : Tree) (c m : ℕ) → Behind ts pre s n t c m → Post (Above ts pre s n) (climb ts rec pre i t c m)
-    unfolding climb
-    climb-runs pre zero s n t c m b = tt
-    climb-runs pre (suc i) s n t c m b = post-choose _ _ _ _
-        (λ g. post-then _ _ _ _ (operation-runs pre s n t c m b g) (climb-runs pre i s n))
-        (λ g. record { run = b .run; root = b .root; stops = inl (halts pre (tok ts (step ts c)) g) })
-
-    level-runs : (pre at room : ℕ) → Post (Above ts pre at room) (level ts rec pre at room)
-    unfolding level next-is is
-    level-runs pre at room = post-then _ _ _ _ (prefix-part-runs at room) (λ t c m q. post-choose _ _ _ _
-        (λ e. record { run = later (q .run) (step-on ts c); root = q .shut (suc pre); stops = inr (eqb-true _ _ e) })
-        (λ e. climb-runs pre turns at room t c m (record { run = q .run; root = q .shut (suc pre); left = inl (q .shut _) })))
-
-  pub expression-runs : (d pre at room : ℕ) → Post (Above ts pre at room) (expression ts d pre at room)
-  unfolding expression
-  expression-runs zero pre at room = tt
-  expression-runs (suc d) pre at room = level-runs (expression ts d) (expression-runs d) pre at room
+    -- Where an expression is accepted, it starts in the array, and something was allowed.
+    pub placed : (d pre s n : ℕ) (t : Tree) (c m : ℕ) → expression ts d pre s n ≡ read t c m → (1 ≤ d) × (s < length ts) × Above ts pre s n t c m
+    unfolding expression tok
+    placed zero pre s n t c m h = let z : _≡_ {A = ℕ} 0 1 = cc in absurd (omega arith)
+    placed (suc d) pre s n t c m h = go (decLt s (length ts))
+      where
+        go : Dec (s < length ts) → (1 ≤ suc d) × (s < length ts) × Above ts pre s n t c m
+        go (yes lt) = (omega arith, lt, rw h at (expression-runs (suc d) pre s n lt))
+        go (no ge) =
+            let le : length ts ≤ s = omega arith in
+            let f : Post (λ t c m. ⊥) (read t c m) = rw h at (expression-eof ts s (suc d) pre n (List·getD-eq-default ts EOF le)) in
+            absurd f
