@@ -13,6 +13,7 @@ use Rattle.grammar.specs.Parsed.{Parsed, refused, read, _>>=_, _>>_, Che
 use Rattle.grammar.specs.Expressions as e
 use Rattle.grammar.specs.Statements as s
 use Rattle.grammar.specs.Script.{longest, both, words-good, array-good}
+use Rattle.grammar.proofs.Checks.{both-met, need-met}
 use Rattle.grammar.proofs.Post.{Fact, Post, post-then}
 use Rattle.grammar.proofs.Steps.{others, step-on, zero-stops}
 
@@ -21,16 +22,6 @@ pub record Valid (ts : List ℕ) : Type 0 where
   pub some : 0 < length ts
   pub short : length ts ≤ turns
   pub ends : (k : ℕ) → suc k ≡ length ts → tok ts k ≡ EOF
-
-both-met : (c c′ : Check) → both c c′ ≡ met → (c ≡ met) × (c′ ≡ met)
-unfolding both
-both-met met c′ e = (refl, e)
-both-met (failed n p) c′ e = let z : _≡_ {A = ℕ} 0 1 = cc in absurd (omega arith)
-
-need-met : (b : Bool) (n p : ℕ) → need b n p ≡ met → b ≡ true
-unfolding need
-need-met true n p e = refl
-need-met false n p e = let z : _≡_ {A = ℕ} 0 1 = cc in absurd (omega arith)
 
 last-word : (ws : List ℕ) (at k : ℕ) → words-good at ws ≡ met → suc k ≡ length ws → getD ws k EOF ≡ EOF
 unfolding words-good

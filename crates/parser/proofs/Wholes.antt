@@ -15,6 +15,7 @@ use Rattle.grammar.specs.Tree.{Tree, Trees, nil, _▸_, sizes, head-ref, lay, l
 use Rattle.grammar.specs.Parsed.{Parsed, refused, read, _>>=_, Check, met, failed, need, _>>_, choose, BadStart}
 use Rattle.grammar.specs.Statements as s
 use Rattle.grammar.specs.Script.{both, array-good, rows, pool, whole-script}
+use Rattle.grammar.proofs.Checks.{both-met, need-met}
 use Rattle.words.proofs.Arrays as arrays
 use Rattle.answer.specs.declared.Answer.{Answer}
 use Rattle.answer.specs.declared.Answer.the-variants as an
@@ -38,16 +39,6 @@ pub record Begins (ts : List ℕ) (at : ℕ) : Type 0 where
   pub good : array-good ts ≡ met
   pub within : at < length ts
 
-both-met : (a b : Check) → both a b ≡ met → (a ≡ met) × (b ≡ met)
-unfolding both
-both-met met b e = (refl, e)
-both-met (failed n p) b e = let z : _≡_ {A = ℕ} 0 1 = cc in absurd (omega arith)
-
-need-true : (b : Bool) (n p : ℕ) → need b n p ≡ met → b ≡ true
-unfolding need
-need-true true n p e = refl
-need-true false n p e = let z : _≡_ {A = ℕ} 0 1 = cc in absurd (omega arith)
-
 pub passed : {A : Type 0} {ts : List ℕ} {at : ℕ} (x : Parsed A) → Begins ts at → (array-good ts >> (need (ltb at (length ts)) BadStart 0 >> x)) ≡ x
 unfolding need _>>_
 passed {ts = ts} {at = at} x b = rw (b .good, lt-ltb at (length ts) (b .within))
@@ -60,7 +51,7 @@ begins ts at {c} e = go (checks ts at) refl e
     go met q r =
         let m = both-met (array-good ts) (need (ltb at (length ts)) BadStart 0) q in
         let here : at ≡ c = cc in
-        (record { good = m .0; within = ltb-true _ _ (need-true _ _ _ (m .1)) }, sym here)
+        (record { good = m .0; within = ltb-true _ _ (need-met _ _ _ (m .1)) }, sym here)
     go (failed n p) q r = let z : _≡_ {A = ℕ} 0 1 = cc in absurd (omega arith)
 
 -- What a refusal of the start tells.
