@@ -21,7 +21,7 @@ pub(crate) fn keyword_code(k: Keyword) -> u8
 
 // The symbol of a code: a line for each of the 41, and so longer than other functions.
 // Not a `const` array, which would be built anew at each use.
-pub(crate) fn symbol_of(code: usize) -> Symbol
+pub(crate) fn symbol_of(code: u16) -> Symbol
     requires { ⌜ code < 41 ⌝ }
     ensures { λ r. ⌜ r ≡ symbol-at code ⌝ }
 {
@@ -71,7 +71,7 @@ pub(crate) fn symbol_of(code: usize) -> Symbol
 }
 
 // The keyword of a code, likewise.
-pub(crate) fn keyword_of(code: usize) -> Keyword
+pub(crate) fn keyword_of(code: u16) -> Keyword
     requires { ⌜ code < 28 ⌝ }
     ensures { λ r. ⌜ r ≡ keyword-at code ⌝ }
 {

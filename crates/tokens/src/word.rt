@@ -26,14 +26,12 @@ pub fn code_of(word: u16) -> u16
 pub fn is_valid(word: u16) -> bool
     ensures { λ r. ⌜ r ≡ valid word ⌝ }
 {
+    let class = class_of(word);
     let code = code_of(word);
-    if code == 0 {
-        return class_of(word) < 11;
-    }
-    match class_of(word) {
+    match class {
         8 => code < 41,
         9 => code < 28,
-        _ => false,
+        _ => class < 11 && code < 1,
     }
 }
 
@@ -44,8 +42,9 @@ pub fn token_of(word: u16) -> Token
     if !is_valid(word) {
         return Token::Invalid;
     }
-    let code = code_of(word) as usize;
-    match class_of(word) {
+    let code = code_of(word);
+    let class = class_of(word);
+    match class {
         1 => Token::Empty,
         2 => Token::EOF,
         3 => Token::Integer,

@@ -49,9 +49,6 @@ returns c = sym (bad-token _ (sym (c .before .is-valid .ensures) ∙ not-true _ 
 code-of-requires : tie.Need-code-of-requires
 code-of-requires c κs = search needs
 
-cast-code : tie.Need-cast-code
-cast-code c = search needs
-
 class-of-requires : tie.Need-class-of-requires
 class-of-requires c κs = search needs
 
@@ -91,7 +88,6 @@ token-of-spec =
     is-valid-requires
     returns
     code-of-requires
-    cast-code
     class-of-requires
     symbol-of-requires
     keyword-of-requires

@@ -1,6 +1,6 @@
 -- `words::check` meets its contract. The loop's invariant: the check of the whole is that of the words from `at` on.
 -- The measure is the number of words before the last. Assumes nothing.
-use Prim.Native.Nat.{ℕ, _+_, _-_, _≤_, _<_}
+use Prim.Native.Nat.{ℕ, zero-le, _+_, _-_, _≤_, _<_}
 use native.Mathlib.Omega.{arith}
 use mathlib.Core.Path.{_≡_, refl, sym, ap, _∙_}
 use mathlib.Core.Bool.{true, false}
@@ -16,6 +16,19 @@ use Rattle.words.specs.Array.{checked}
 use Rattle.words.proofs.Arrays.{inner, sized, good-on, bad-here, good-last}
 use Rattle.words.proofs.array.check.Statement.{statement}
 use Rattle.words.proofs.array.check.Tie as tie
+
+-- A place before the last of so many is in the array, as is the next, and the next is nearer to the last.
+within : (at n : ℕ) → at < n - 1 → at < n
+within at n h = omega arith
+
+near : (at n : ℕ) → at < n - 1 → at + 1 < n
+near at n h = omega arith
+
+nearer : (at last : ℕ) → at < last → last - (at + 1) < last - at
+nearer at last h = omega arith
+
+on : (at last : ℕ) → at < last → at + 1 ≤ last
+on at last h = omega arith
 
 abbrev Inv-loop : tie.InvT-loop
 Inv-loop tokens last at₀ at = (at ≤ last) × (words-good 0 tokens ≡ words-good at (drop at tokens))
@@ -52,19 +65,19 @@ sub-last : tie.Need-sub-last Inv-loop μ-loop
 sub-last c = omega arith
 
 loop-holds : tie.Need-loop-holds Inv-loop μ-loop
-loop-holds c = (omega arith, refl)
+loop-holds c = (zero-le, refl)
 
 mul-word : tie.Need-mul-word Inv-loop μ-loop
 mul-word c = omega arith
 
 shared-slice-read-word : tie.Need-shared-slice-read-word Inv-loop μ-loop
-shared-slice-read-word c = omega arith
+shared-slice-read-word c = within _ _ (c .before .loop-test .taken)
 
 returns-3 : tie.Need-returns-3 Inv-loop μ-loop
 unfolding valid class code codes
 returns-3 c =
     let b = c .before .before .before in
-    let more : b .loop .at + 1 < length (ts b) = omega arith in
+    let more : b .loop .at + 1 < length (ts b) = near _ _ (c .before .before .loop-test .taken) in
     let bad : inner (getD (ts b) (b .loop .at) 0) ≡ false = rw (c .if3 .taken) in
     sym (ap checked (whole b ∙ bad-here (ts b) (b .loop .at) more bad))
 
@@ -74,7 +87,7 @@ is-valid-requires c κs = tt
 returns-4 : tie.Need-returns-4 Inv-loop μ-loop
 returns-4 c =
     let b = c .before .before .before .before .before in
-    let more : b .loop .at + 1 < length (ts b) = omega arith in
+    let more : b .loop .at + 1 < length (ts b) = near _ _ (c .before .before .before .before .loop-test .taken) in
     let bad : inner (getD (ts b) (b .loop .at) 0) ≡ false = rw (sym (c .before .is-valid .ensures) ∙ not-true _ (c .if4 .taken)) in
     sym (ap checked (whole b ∙ bad-here (ts b) (b .loop .at) more bad))
 
@@ -82,14 +95,14 @@ add-at : tie.Need-add-at Inv-loop μ-loop
 add-at c = omega arith
 
 loop-less : tie.Need-loop-less Inv-loop μ-loop
-loop-less c = omega arith
+loop-less c = nearer _ _ (c .before .before .before .before .loop-test .taken)
 
 loop-again : tie.Need-loop-again Inv-loop μ-loop
 loop-again c =
     let b = c .before .before .before .before .before in
-    let more : b .loop .at + 1 < length (ts b) = omega arith in
+    let more : b .loop .at + 1 < length (ts b) = near _ _ (c .before .before .before .before .loop-test .taken) in
     let good : inner (getD (ts b) (b .loop .at) 0) ≡ true = rw (sym (c .before .is-valid .ensures) ∙ not-false _ (c .if4 .left), ne-eqb _ _ (c .before .before .if3 .left)) in
-    (omega arith, b .loop .inv .1 ∙ good-on (ts b) (b .loop .at) more good)
+    (on _ _ (c .before .before .before .before .loop-test .taken), b .loop .inv .1 ∙ good-on (ts b) (b .loop .at) more good)
 
 mul-if5 : tie.Need-mul-if5 Inv-loop μ-loop
 mul-if5 c = omega arith
