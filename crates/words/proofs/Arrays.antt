@@ -13,6 +13,7 @@ use borrow.Author.Tests.{eqb-true, ltb-true, ltb-false, leb-true, not-true, eq-e
 use Rattle.grammar.specs.Words.{EOF, class, code, codes, valid, tok, step}
 use Rattle.grammar.specs.Parsed.{Check, met, failed, need, BadArray}
 use Rattle.grammar.specs.Script.{both, words-good, array-good, longest}
+use Rattle.grammar.proofs.Checks.{both-met, need-met}
 use Rattle.tokens.specs.Tokens.{word, token}
 use Rattle.tokens.proofs.Round.{word-token}
 use Rattle.words.proofs.Steps.{step-one}
@@ -20,16 +21,6 @@ use Rattle.words.proofs.Steps.{step-one}
 -- Whether a word may stand before the last.
 abbrev pub inner : ℕ → Bool
 inner w = valid w && not (eqb w EOF)
-
-both-met : (a b : Check) → both a b ≡ met → (a ≡ met) × (b ≡ met)
-unfolding both
-both-met met b h = (refl, h)
-both-met (failed n p) b h = absurd (let z : _≡_ {A = ℕ} 0 1 = cc in omega arith)
-
-need-met : (b : Bool) (n p : ℕ) → need b n p ≡ met → b ≡ true
-unfolding need
-need-met true n p h = refl
-need-met false n p h = absurd (let z : _≡_ {A = ℕ} 0 1 = cc in omega arith)
 
 -- The check of an array of a good length is that of its words.
 pub sized : (ts : List ℕ) → 0 < length ts → length ts ≤ 32768 → array-good ts ≡ words-good 0 ts
