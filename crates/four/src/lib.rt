@@ -4,7 +4,6 @@ use files::Fields;
 use text::Folded;
 ghost use mathlib.Core.Path.{_≡_};
 ghost use mathlib.Core.List.{[], _∷_};
-ghost use lib.ListN.{set};
 ghost use Rattle.answer.specs.Answer.{numbers};
 ghost use Rattle.four.specs.Answers.{over, file-words, fold-words, text-words};
 

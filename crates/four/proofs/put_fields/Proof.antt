@@ -1,5 +1,4 @@
 -- `four::put_fields` meets its contract: each case has its four words.
-use borrow.Author.Needs.{needs}
 use Rattle.four.proofs.put_fields.Statement.{statement}
 use Rattle.four.proofs.put_fields.Tie as tie
 

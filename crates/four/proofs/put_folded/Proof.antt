@@ -1,5 +1,4 @@
 -- `four::put_folded` meets its contract: each case has its four words.
-use borrow.Author.Needs.{needs}
 use Rattle.four.proofs.put_folded.Statement.{statement}
 use Rattle.four.proofs.put_folded.Tie as tie
 

@@ -3,11 +3,9 @@ use Prim.Native.Nat.{ℕ, _<_}
 use mathlib.Core.List.{List, [], _∷_}
 use native.Mathlib.Nat.{lt-of-lt-of-le}
 use native.Mathlib.Bridge.{le-by-compare, IsLe}
-use native.Mathlib.Omega.{arith}
 use lib.ListN.{length}
-use lib.Seq.{sets, sets-eq, lt-length-sets}
+use lib.Seq.{sets, sets-eq, length-sets, lt-length-sets}
 use Rattle.rows.specs.Rows.{width, words}
-use borrow.Author.Needs.{needs}
 use Rattle.rows.proofs.fill.Statement.{statement}
 use Rattle.rows.proofs.fill.Tie as tie
 
@@ -16,7 +14,8 @@ inside : (c : tie.Start) (k : ℕ) (ws : List ℕ) → k < width → k < length 
 inside c k ws h = lt-length-sets (c .args .part .now) 0 ws (lt-of-lt-of-le h (c .pre))
 
 slice-write-part : tie.Need-slice-write-part
-slice-write-part c = search needs
+unfolding IsLe
+slice-write-part c = inside c 0 [] (le-by-compare 1 8 tt)
 
 slice-write-part-2 : tie.Need-slice-write-part-2
 unfolding IsLe
@@ -47,10 +46,10 @@ unfolding IsLe
 slice-write-part-8 c = inside c 7 (c .args .row .kind ∷ c .args .row .mark ∷ c .args .row .place ∷ c .args .row .c0 ∷ c .args .row .c1 ∷ c .args .row .c2 ∷ c .args .row .c3 ∷ []) (le-by-compare 8 8 tt)
 
 same-length : tie.Need-same-length
-same-length c = search needs
+same-length c = length-sets (c .args .part .now) 0 (words (c .args .row))
 
 returns : tie.Need-returns
-returns c = sets-eq (words (c .args .row)) (c .args .part .now) 0 (omega arith)
+returns c = sets-eq (words (c .args .row)) (c .args .part .now) 0 (c .pre)
 
 pub fill-spec : {M : Type 1} → statement M
 fill-spec =
