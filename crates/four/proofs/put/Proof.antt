@@ -64,7 +64,7 @@ slice-write-words-4 : tie.Need-slice-write-words-4
 slice-write-words-4 c = rw (third-long (c .before)) (c .if4 .taken)
 
 same-length : tie.Need-same-length
-same-length c = length-set (c .before .if3 .words) 3 _ ∙ third-long (c .before)
+same-length c = length-set (c .before .if3 .words) _ _ ∙ third-long (c .before)
 
 returns : tie.Need-returns
 returns c = fourth (c .before)
