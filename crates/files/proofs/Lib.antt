@@ -4,3 +4,4 @@ pub mod Outcomes
 pub mod Bound
 pub mod Entries
 pub mod Examples
+mod Cleared

@@ -1,9 +1,10 @@
 // Token files: the fields of a file are read into a lent buffer of token words.
 ghost use mathlib.Core.Path.{_≡_};
+ghost use mathlib.Core.Bool.{true};
 ghost use mathlib.Core.List.{List, _++_};
-ghost use Prim.Native.Nat.{ℕ, _+_, _*_, _-_};
-ghost use lib.ListN.{length, take, drop, replicate};
-ghost use Rattle.files.specs.File.{read, coded, allowed, first};
+ghost use Prim.Native.Nat.{ℕ, _+_, _*_, _<_};
+ghost use lib.ListN.{length, drop};
+ghost use Rattle.files.specs.File.{read, head, coded, allowed, word, first};
 ghost use Rattle.files.specs.Entry.{content, file-answer, file-buffer};
 
 // The classes, which are the fields' tags.
@@ -95,11 +96,16 @@ fn size_of(high: u8, low: u8) -> usize
     high as usize * 256 + low as usize
 }
 
-// The word of a class and a code.
-fn word_of(class: u8, code: u8) -> u16
-    ensures { λ r. ⌜ r ≡ class * 256 + code ⌝ }
+// The word of a field that begins a part: its class, and where it has one its code, the byte behind the head.
+fn word_of(tag: u8, part: &[u8]) -> u16
+    requires { ⌜ (coded tag ≡ true → head < length (now part)) ⌝ }
+    ensures { λ r. ⌜ r ≡ word tag (drop head (now (part .entry))) ⌝ }
 {
-    class as u16 * 256 + code as u16
+    let class = tag as u16 * 256;
+    if is_coded(tag) {
+        return class + part[HEAD] as u16;
+    }
+    class
 }
 
 // The first field of a part of the file.
@@ -117,10 +123,7 @@ fn first_field(part: &[u8]) -> Field
     if part.len() - HEAD < size {
         return Field::Bad;
     }
-    if is_coded(tag) {
-        return Field::Good(word_of(tag, part[HEAD]), HEAD + size);
-    }
-    Field::Good(word_of(tag, 0), HEAD + size)
+    Field::Good(word_of(tag, part), HEAD + size)
 }
 
 // Reads the fields in order, their words into the front of the buffer as far as it goes.
@@ -151,27 +154,19 @@ fn fill(bytes: &[u8], words: &mut [u16]) -> Fields
     Fields::Count(count)
 }
 
-// Every word of the buffer from a place on becomes 0.
-fn clear(words: &mut [u16], from: usize)
-    ensures { λ _. ⌜ now (words .exit) ≡ take from (now (words .entry)) ++ replicate (length (now (words .entry)) - from) 0 ⌝ }
-{
-    let mut i = from;
-    while i < words.len() {
-        words[i] = 0;
-        i += 1;
-    }
-}
-
 // Reads a file into a buffer of token words: the words in front, zeros behind; all zeros after a refusal.
 pub fn read(bytes: &[u8], words: &mut [u16]) -> Fields
     ensures answer { λ r. ⌜ r ≡ file-answer (now (bytes .entry)) (length (now (words .entry))) ⌝ }
     ensures buffer { λ _. ⌜ now (words .exit) ≡ file-buffer (now (bytes .entry)) (length (now (words .entry))) ⌝ }
 {
     let answer = fill(bytes, words);
-    let Fields::Count(count) = answer else {
-        clear(words, 0);
-        return answer;
+    let mut i = match answer {
+        Fields::Count(count) => count,
+        Fields::Refused(_, _) => 0,
     };
-    clear(words, count);
+    while i < words.len() {
+        words[i] = 0;
+        i += 1;
+    }
     answer
 }

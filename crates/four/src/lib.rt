@@ -4,27 +4,26 @@ use files::Fields;
 use text::Folded;
 ghost use mathlib.Core.Path.{_≡_};
 ghost use mathlib.Core.List.{[], _∷_};
-ghost use lib.ListN.{set};
 ghost use Rattle.answer.specs.Answer.{numbers};
 ghost use Rattle.four.specs.Answers.{over, file-words, fold-words, text-words};
 
-// Writes a word at a place, if the slice has that place.
-fn put_word(words: &mut [u64], place: usize, word: u64)
-    ensures { λ _. ⌜ now (words .exit) ≡ set (now (words .entry)) place word ⌝ }
-{
-    if place < words.len() {
-        words[place] = word;
-    }
-}
-
 // Writes four words into the front of a slice, as far as it goes.
-fn put(words: &mut [u64], first: u64, second: u64, third: u64, fourth: u64)
+fn put(words: &mut [u64], first: u32, second: usize, third: usize, fourth: usize)
     ensures { λ _. ⌜ now (words .exit) ≡ over (first ∷ second ∷ third ∷ fourth ∷ []) (now (words .entry)) ⌝ }
 {
-    put_word(words, 0, first);
-    put_word(words, 1, second);
-    put_word(words, 2, third);
-    put_word(words, 3, fourth);
+    let room = words.len();
+    if 0 < room {
+        words[0] = first as u64;
+    }
+    if 1 < room {
+        words[1] = second as u64;
+    }
+    if 2 < room {
+        words[2] = third as u64;
+    }
+    if 3 < room {
+        words[3] = fourth as u64;
+    }
 }
 
 // Writes what an entry answers.
@@ -33,10 +32,10 @@ pub fn put_answer(words: &mut [u64], outcome: Answer)
 {
     match outcome {
         Answer::Accepted(root, rows, place) => {
-            put(words, 0, root as u64, rows as u64, place as u64);
+            put(words, 0, root as usize, rows, place);
         }
         Answer::Refused(number, place) => {
-            put(words, number as u64, place as u64, 0, 0);
+            put(words, number, place, 0, 0);
         }
     }
 }
@@ -47,10 +46,10 @@ pub fn put_fields(words: &mut [u64], fields: Fields)
 {
     match fields {
         Fields::Count(count) => {
-            put(words, 0, count as u64, 0, 0);
+            put(words, 0, count, 0, 0);
         }
         Fields::Refused(number, place) => {
-            put(words, number as u64, place as u64, 0, 0);
+            put(words, number, place, 0, 0);
         }
     }
 }
@@ -61,10 +60,10 @@ pub fn put_folded(words: &mut [u64], folded: Folded)
 {
     match folded {
         Folded::Length(length) => {
-            put(words, 0, length as u64, 0, 0);
+            put(words, 0, length, 0, 0);
         }
         Folded::Refused(number, place) => {
-            put(words, number as u64, place as u64, 0, 0);
+            put(words, number, place, 0, 0);
         }
     }
 }
@@ -75,5 +74,5 @@ pub fn put_text<'a>(words: &mut [u64], payload: &'a [u8], work: &'a [u8])
 {
     let text = text::text(payload, work);
     let is_work = text.len() != payload.len();
-    put(words, 0, text.len() as u64, is_work as u64, 0);
+    put(words, 0, text.len(), is_work as usize, 0);
 }

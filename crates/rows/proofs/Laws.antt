@@ -19,6 +19,13 @@ use Rattle.rows.specs.declared.Flag.{Flag}
 
 -- ---- building
 
+-- a row behind the first `rows` is free where the pool has more, and none is where it has not
+pub free : (rows n : ℕ) → rows < n / width → width * rows + width ≤ n
+free rows n h = omega arith
+
+pub none-free : (rows n : ℕ) → n / width ≤ rows → n < width * rows + width
+none-free rows n h = omega arith
+
 -- where a row is free it is built
 pub built-fits : (xs : List ℕ) (rows : ℕ) (ws : List ℕ) (place : ℕ)
     → width * rows + width ≤ length xs → built xs rows ws place ≡ (Rows (rows + 1), placed xs rows ws)

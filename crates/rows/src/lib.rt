@@ -91,23 +91,20 @@ pub fn link(pool: &mut [u32], reference: usize, next: u32)
     }
 }
 
-// The number that stands for a flag in a mark.
-fn bit_of(f: Flag) -> u32
-    ensures { λ r. ⌜ r ≡ bit f ⌝ }
-{
-    match f {
-        Flag::Thread => 1,
-        Flag::Async => 2,
-        Flag::Grouped => 256,
-    }
-}
-
 // A mark with a flag in it, once.
 fn with_flag(mark: u32, f: Flag) -> u32
     ensures { λ r. ⌜ r ≡ flag (bit f) mark ⌝ }
 {
-    let b = bit_of(f);
-    if mark / b % 2 == 0 { mark + b } else { mark }
+    let bit = match f {
+        Flag::Thread => 1,
+        Flag::Async => 2,
+        Flag::Grouped => 256,
+    };
+    if mark / bit % 2 == 0 {
+        mark + bit
+    } else {
+        mark
+    }
 }
 
 // A flag goes into the mark of the row with this reference; nothing changes where there is no such row.

@@ -3,6 +3,7 @@ use mathlib.Core.Path.{_≡_, sym, _∙_}
 use mathlib.Core.List.{List, _++_}
 use mathlib.Core.Logic.{⊎-elim}
 use Prim.Native.Nat.{ℕ, suc, _+_, _-_, _≤_, _<_}
+use native.Mathlib.Nat.{le-of-lt}
 use native.Mathlib.Omega.{arith}
 use borrow.Author.Needs.{needs}
 use borrow.Author.Tests.{le-leb, lt-leb}
@@ -68,7 +69,7 @@ loop-holds : tie.Need-loop-holds Inv-loop μ-loop
 loop-holds c = begun (c .before .before .before .args .bytes .now) (c .before .before .before .args .words .now)
 
 sub-first-field : tie.Need-sub-first-field Inv-loop μ-loop
-sub-first-field c = omega arith
+sub-first-field c = le-of-lt (c .loop-test .taken)
 
 part-first-field-start : tie.Need-part-first-field-start Inv-loop μ-loop
 part-first-field-start c = omega arith
@@ -77,7 +78,7 @@ part-first-field-end : tie.Need-part-first-field-end Inv-loop μ-loop
 part-first-field-end c = omega arith
 
 first-field-requires : tie.Need-first-field-requires Inv-loop μ-loop
-first-field-requires c κs = search needs
+first-field-requires c κs = tt
 
 enum-known-field : tie.Need-enum-known-field Inv-loop μ-loop
 enum-known-field c = c .match .keys1

@@ -1,6 +1,6 @@
 -- `files::first_field` meets its contract: by the tests of the head and of the payload's length.
-use mathlib.Core.Path.{_≡_, refl, sym, _∙_}
-use mathlib.Core.Bool.{true, false, cond, _&&_}
+use mathlib.Core.Path.{_≡_, refl, sym, ap, _∙_}
+use mathlib.Core.Bool.{Bool, true, false, cond, _&&_}
 use mathlib.Core.List.{List, [], _∷_}
 use Prim.Native.Nat.{ℕ, _+_, _*_, _-_, _≤_, _<_}
 use native.Mathlib.Omega.{arith}
@@ -8,9 +8,9 @@ use borrow.Author.Needs.{needs}
 use borrow.Author.Tests.{eqb-true, le-leb, lt-leb, not-true, not-false}
 use lib.Dec.{leb}
 use lib.ListN.{length, getD, take, drop, length-drop}
-use lib.Seq.{getD-take, getD-drop}
+use lib.Seq.{getD-take}
 use Rattle.files.specs.declared.Field.the-variants.{Good, Bad}
-use Rattle.files.specs.File.{coded, allowed, word, first}
+use Rattle.files.specs.File.{head, coded, allowed, word, first}
 use Rattle.files.proofs.first_field.Statement.{statement}
 use Rattle.files.proofs.first_field.Tie as tie
 
@@ -48,15 +48,21 @@ module _ {part : List ℕ} {size : ℕ} (h : Headed part size) where
       good : first part ≡ Good (word (getD part 0 0) (take size (drop 3 part))) (3 + size)
       good = rw (whole part size h, a, length-drop, le-leb size (length part - 3) s)
 
-      plain : coded (getD part 0 0) ≡ false → first part ≡ Good (getD part 0 0 * 256 + 0) (3 + size)
-      plain n = good ∙ rw n
-
       one : coded (getD part 0 0) ≡ true → size ≡ 1
       unfolding allowed
       one k = eqb-true size 1 (rw k at a)
 
-      with-code : coded (getD part 0 0) ≡ true → first part ≡ Good (getD part 0 0 * 256 + getD part 3 0) (3 + size)
-      with-code k = good ∙ rw (k, getD-take size (drop 3 part) 0 0 (omega (arith, one k)), getD-drop 3 part 0 0)
+      -- a code stands behind the head
+      behind : coded (getD part 0 0) ≡ true → head < length part
+      behind k = omega (arith, one k)
+
+      -- so the word needs no more of the payload
+      found : first part ≡ Good (word (getD part 0 0) (drop head part)) (3 + size)
+      found = good ∙ ap (λ (w : ℕ). Good w (3 + size)) (go (coded (getD part 0 0)) refl)
+        where
+          go : (t : Bool) → coded (getD part 0 0) ≡ t → getD part 0 0 * 256 + cond t (getD (take size (drop head part)) 0 0) 0 ≡ getD part 0 0 * 256 + cond t (getD (drop head part) 0 0) 0
+          go true k = rw (getD-take size (drop head part) 0 0 (omega (arith, one k)))
+          go false k = refl
 
 -- the head that was read
 headed : (c : tie.After-size-of) → Headed (c .before .before .before .before .before .before .args .part .now) (c .size-of .result)
@@ -76,54 +82,33 @@ shared-slice-read-size-of : tie.Need-shared-slice-read-size-of
 shared-slice-read-size-of c = search needs
 
 shared-slice-read-size-of-2 : tie.Need-shared-slice-read-size-of-2
-shared-slice-read-size-of-2 c = search needs
+shared-slice-read-size-of-2 c = c .before .before .before .if1 .left
 
 size-of-requires : tie.Need-size-of-requires
-size-of-requires c κs = search needs
+size-of-requires c κs = tt
 
 is-allowed-requires : tie.Need-is-allowed-requires
-is-allowed-requires c κs = search needs
+is-allowed-requires c κs = tt
 
 returns-2 : tie.Need-returns-2
 returns-2 c = sym (unallowed (headed (c .before .before)) (sym (c .before .is-allowed .ensures) ∙ not-true _ (c .if2 .taken)))
 
 sub-if3 : tie.Need-sub-if3
-sub-if3 c = search needs
+sub-if3 c = c .before .before .before .before .before .before .if1 .left
 
 returns-3 : tie.Need-returns-3
 returns-3 c = sym (short (headed (c .before .before .before)) (agreed (c .before)) (c .if3 .taken))
 
-is-coded-requires : tie.Need-is-coded-requires
-is-coded-requires c κs = search needs
-
-shared-slice-read-word-of : tie.Need-shared-slice-read-word-of
-shared-slice-read-word-of c =
-    let fits = c .before .before .before in
-    omega (arith, one (headed (fits .before .before .before)) (agreed (fits .before)) (fits .if3 .left) (sym (c .before .before .is-coded .ensures) ∙ c .before .if4 .taken), fits .if3 .left)
-
 word-of-requires : tie.Need-word-of-requires
-word-of-requires c κs = search needs
-
-add-t17 : tie.Need-add-t17
-add-t17 c = search needs
-
-returns-4 : tie.Need-returns-4
-returns-4 c =
-    let called = c .before .before .before in
-    let fits = called .before in
-    sym (with-code (headed (fits .before .before .before)) (agreed (fits .before)) (fits .if3 .left) (sym (called .is-coded .ensures) ∙ c .before .before .if4 .taken) ∙ rw (c .word-of .ensures))
-
-word-of-requires-2 : tie.Need-word-of-requires-2
-word-of-requires-2 c κs = search needs
+word-of-requires c κs = behind (headed (c .before .before .before)) (agreed (c .before)) (c .if3 .left)
 
 add-t4 : tie.Need-add-t4
 add-t4 c = search needs
 
-returns-5 : tie.Need-returns-5
-returns-5 c =
-    let called = c .before .before in
-    let fits = called .before in
-    sym (plain (headed (fits .before .before .before)) (agreed (fits .before)) (fits .if3 .left) (sym (called .is-coded .ensures) ∙ c .before .if4 .left) ∙ rw (c .word-of2 .ensures))
+returns-4 : tie.Need-returns-4
+returns-4 c =
+    let fits = c .before in
+    sym (found (headed (fits .before .before .before)) (agreed (fits .before)) (fits .if3 .left) ∙ rw (c .word-of .ensures))
 
 pub first-field-spec : {M : Type 1} → statement M
 first-field-spec =
@@ -138,11 +123,6 @@ first-field-spec =
     returns-2
     sub-if3
     returns-3
-    is-coded-requires
-    shared-slice-read-word-of
     word-of-requires
-    add-t17
-    returns-4
-    word-of-requires-2
     add-t4
-    returns-5)
+    returns-4)

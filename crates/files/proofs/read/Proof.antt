@@ -1,15 +1,17 @@
 -- `files::read` meets its contract: behind what was filled, the buffer is cleared.
-use mathlib.Core.Path.{_≡_, sym, ap, _∙_}
+use mathlib.Core.Path.{_≡_, refl, sym, ap, _∙_}
 use mathlib.Core.List.{List, _++_}
-use Prim.Native.Nat.{ℕ, _-_}
+use mathlib.Core.Logic.{⊎-elim}
+use Prim.Native.Nat.{ℕ, _-_, _≤_}
 use native.Mathlib.Omega.{arith}
 use borrow.Author.Needs.{needs}
-use lib.ListN.{length, take, drop, replicate}
+use lib.ListN.{length, take, drop, replicate, length-set}
 use lib.Seq.{take-at}
 use Rattle.files.specs.declared.Fields.the-variants.{Count, Refused}
 use Rattle.files.specs.File.{Content, read, refused}
 use Rattle.files.specs.Entry.{content, answered, laid, file-answer, file-buffer}
 use Rattle.files.proofs.Outcomes.{accepted}
+use Rattle.files.proofs.Cleared.{zeroed, zero-none, zero-more, zero-all}
 use Rattle.files.proofs.read.Statement.{statement}
 use Rattle.files.proofs.read.Tie as tie
 
@@ -34,55 +36,84 @@ module _ (buffer words : List ℕ) (same : length words ≡ length buffer) where
       let kept : take count words ≡ a .words = ap (take count) (front (a .words) (a .given)) ∙ take-at (a .words) _ count (a .counted) in
       rw (a .given, a .counted, kept, same)
 
-fill-requires : tie.Need-fill-requires
-fill-requires c κs = search needs
+abbrev Inv-loop : tie.InvT-loop
+Inv-loop bytes words₀ answer i₀ words i =
+    (words ≡ zeroed words₀ i₀ i) × (i₀ ≤ i) × (i - i₀ ≤ length words₀ - i₀) × (length words ≡ length words₀)
 
-enum-known-answer : tie.Need-enum-known-answer
-enum-known-answer c = search needs
+abbrev μ-loop : tie.MeasureT-loop
+μ-loop bytes words₀ answer i₀ words i = length words₀ - i
 
-enum-told : tie.Need-enum-told
-enum-told c = search needs
-
-clear-requires : tie.Need-clear-requires
-clear-requires c κs = search needs
-
-same-length : tie.Need-same-length
-same-length c = search needs
-
-returns : tie.Need-returns
-returns c =
-    let told = c .before .before .before .before in
-    let filled = told .before .before .before .before in
+-- what the words that were filled become: the place to clear from, by the answer
+laid-there : (c : tie.At-match-came Inv-loop μ-loop)
+    → (c .match .answer ≡ file-answer (c .before .before .before .before .before .before .before .args .bytes .now) (length (c .before .before .before .before .before .before .before .args .words .now)))
+    × (cleared (c .before .before .before .fill .last .1 .0) (c .match .i) ≡ file-buffer (c .before .before .before .before .before .before .before .args .bytes .now) (length (c .before .before .before .before .before .before .before .args .words .now)))
+laid-there c =
+    let filled = c .before .before .before in
     let a = filled .before .before .before .before .args in
     let e = filled .fill .ensures .0 in
-    let none = none-laid (a .words .now) (filled .fill .last .1 .0) (filled .fill .kept .1 .0) (content (a .bytes .now) (length (a .words .now))) (sym e ∙ told .enum-told .given .1) in
-    (e, c .before .before .clear .ensures ∙ none)
+    let kept = filled .fill .kept .1 .0 in
+    ⊎-elim
+    (λ w. (w .3 ∙ sym (w .1 .given .1) ∙ e, rw (w .4) (all-laid (a .words .now) (filled .fill .last .1 .0) kept (a .bytes .now) (sym e ∙ w .1 .given .1) (filled .fill .ensures .1))))
+    (λ w. (w .2 ∙ e, rw (w .3) (none-laid (a .words .now) (filled .fill .last .1 .0) kept (content (a .bytes .now) (length (a .words .now))) (sym e ∙ w .1 .given .1))))
+    (c .match .came)
 
-clear-requires-2 : tie.Need-clear-requires-2
-clear-requires-2 c κs = search needs
+fill-requires : tie.Need-fill-requires Inv-loop μ-loop
+fill-requires c κs = tt
 
-same-length-2 : tie.Need-same-length-2
-same-length-2 c = search needs
+enum-known-answer : tie.Need-enum-known-answer Inv-loop μ-loop
+enum-known-answer c = c .match .keys1
 
-returns-2 : tie.Need-returns-2
-returns-2 c =
-    let told = c .before .before .before .before .before in
-    let filled = told .before .before .before .before in
-    let a = filled .before .before .before .before .args in
-    let e = sym (told .answer .given .1) ∙ filled .fill .ensures .0 in
-    let all = all-laid (a .words .now) (filled .fill .last .1 .0) (filled .fill .kept .1 .0) (a .bytes .now) (sym e) (filled .fill .ensures .1) in
-    (e, c .before .before .clear2 .ensures ∙ all)
+enum-told : tie.Need-enum-told Inv-loop μ-loop
+enum-told c = c .match .keys2
+
+loop-holds : tie.Need-loop-holds Inv-loop μ-loop
+loop-holds c = (zero-none (c .before .before .before .fill .last .1 .0) (c .match .i), omega arith, omega arith, refl)
+
+mul-words : tie.Need-mul-words Inv-loop μ-loop
+mul-words c = search needs
+
+slice-write-words : tie.Need-slice-write-words Inv-loop μ-loop
+slice-write-words c = c .before .loop-test .taken
+
+add-i : tie.Need-add-i Inv-loop μ-loop
+add-i c = search needs
+
+loop-less : tie.Need-loop-less Inv-loop μ-loop
+loop-less c =
+    let inv = c .before .before .loop .inv in
+    omega arith
+
+loop-again : tie.Need-loop-again Inv-loop μ-loop
+loop-again c =
+    let at-loop = c .before .before in
+    let inv = at-loop .loop .inv in
+    let more = rw (inv .3) at (c .before .loop-test .taken) in
+    (rw (inv .0) (zero-more (at-loop .before .before .before .before .fill .last .1 .0) (at-loop .before .match .i) (at-loop .loop .i) (inv .1) more), omega arith, omega arith, simp length-set (inv .3))
+
+same-length : tie.Need-same-length Inv-loop μ-loop
+same-length c = c .before .loop .inv .3 ∙ c .before .before .before .before .before .fill .kept .1 .0
+
+returns : tie.Need-returns Inv-loop μ-loop
+returns c =
+    let at-loop = c .before in
+    let inv = at-loop .loop .inv in
+    let laid = laid-there (at-loop .before) in
+    (laid .0, inv .0 ∙ zero-all (at-loop .before .before .before .before .fill .last .1 .0) (at-loop .before .match .i) (at-loop .loop .i) (rw (inv .3) at (c .loop-test .left)) (inv .2) ∙ laid .1)
 
 pub read-spec : {M : Type 1} → statement M
 read-spec =
     tie.close
     (tie.spec
+    Inv-loop
+    μ-loop
     fill-requires
     enum-known-answer
     enum-told
-    clear-requires
+    loop-holds
+    mul-words
+    slice-write-words
+    add-i
+    loop-less
+    loop-again
     same-length
-    returns
-    clear-requires-2
-    same-length-2
-    returns-2)
+    returns)

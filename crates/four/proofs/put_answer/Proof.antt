@@ -4,25 +4,22 @@ use Rattle.four.proofs.put_answer.Statement.{statement}
 use Rattle.four.proofs.put_answer.Tie as tie
 
 enum-known-outcome : tie.Need-enum-known-outcome
-enum-known-outcome c = search needs
+enum-known-outcome c = c .match .keys1
 
 cast-put : tie.Need-cast-put
 cast-put c = search needs
 
 put-requires : tie.Need-put-requires
-put-requires c κs = search needs
+put-requires c κs = tt
 
 enum-known-outcome-2 : tie.Need-enum-known-outcome-2
-enum-known-outcome-2 c = search needs
-
-cast-put-2 : tie.Need-cast-put-2
-cast-put-2 c = search needs
+enum-known-outcome-2 c = c .match .keys2
 
 put-requires-2 : tie.Need-put-requires-2
-put-requires-2 c κs = search needs
+put-requires-2 c κs = tt
 
 same-length : tie.Need-same-length
-same-length c = search needs
+same-length c = c .before .before .put .kept .0
 
 returns : tie.Need-returns
 returns c =
@@ -31,7 +28,7 @@ returns c =
     rw (known .outcome .given .1) (at-put .put .ensures)
 
 same-length-2 : tie.Need-same-length-2
-same-length-2 c = search needs
+same-length-2 c = c .before .before .put2 .kept .0
 
 returns-2 : tie.Need-returns-2
 returns-2 c =
@@ -47,7 +44,6 @@ put-answer-spec =
     cast-put
     put-requires
     enum-known-outcome-2
-    cast-put-2
     put-requires-2
     same-length
     returns

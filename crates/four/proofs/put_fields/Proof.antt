@@ -1,25 +1,21 @@
 -- `four::put_fields` meets its contract: each case has its four words.
-use borrow.Author.Needs.{needs}
 use Rattle.four.proofs.put_fields.Statement.{statement}
 use Rattle.four.proofs.put_fields.Tie as tie
 
 enum-known-fields : tie.Need-enum-known-fields
-enum-known-fields c = search needs
+enum-known-fields c = c .match .keys1
 
 put-requires : tie.Need-put-requires
-put-requires c κs = search needs
+put-requires c κs = tt
 
 enum-known-fields-2 : tie.Need-enum-known-fields-2
-enum-known-fields-2 c = search needs
-
-cast-put : tie.Need-cast-put
-cast-put c = search needs
+enum-known-fields-2 c = c .match .keys2
 
 put-requires-2 : tie.Need-put-requires-2
-put-requires-2 c κs = search needs
+put-requires-2 c κs = tt
 
 same-length : tie.Need-same-length
-same-length c = search needs
+same-length c = c .before .before .put .kept .0
 
 returns : tie.Need-returns
 returns c =
@@ -28,7 +24,7 @@ returns c =
     rw (known .fields .given .1) (at-put .put .ensures)
 
 same-length-2 : tie.Need-same-length-2
-same-length-2 c = search needs
+same-length-2 c = c .before .before .put2 .kept .0
 
 returns-2 : tie.Need-returns-2
 returns-2 c =
@@ -43,7 +39,6 @@ put-fields-spec =
     enum-known-fields
     put-requires
     enum-known-fields-2
-    cast-put
     put-requires-2
     same-length
     returns

@@ -1,41 +1,55 @@
 -- `fill` meets its contract: the eight stores are the row's words at the front of the part.
-use native.Mathlib.Omega.{arith}
-use lib.ListN.{length-set}
-use lib.Seq.{sets-eq}
-use Rattle.rows.specs.Rows.{words}
-use borrow.Author.Needs.{needs}
+use Prim.Native.Nat.{ℕ, _<_}
+use mathlib.Core.List.{List, [], _∷_}
+use native.Mathlib.Nat.{lt-of-lt-of-le}
+use native.Mathlib.Bridge.{le-by-compare, IsLe}
+use lib.ListN.{length}
+use lib.Seq.{sets, sets-eq, length-sets, lt-length-sets}
+use Rattle.rows.specs.Rows.{width, words}
 use Rattle.rows.proofs.fill.Statement.{statement}
 use Rattle.rows.proofs.fill.Tie as tie
 
+-- a word of the row lies within the part, also behind the stores before it
+inside : (c : tie.Start) (k : ℕ) (ws : List ℕ) → k < width → k < length (sets (c .args .part .now) 0 ws)
+inside c k ws h = lt-length-sets (c .args .part .now) 0 ws (lt-of-lt-of-le h (c .pre))
+
 slice-write-part : tie.Need-slice-write-part
-slice-write-part c = search needs
+unfolding IsLe
+slice-write-part c = inside c 0 [] (le-by-compare 1 8 tt)
 
 slice-write-part-2 : tie.Need-slice-write-part-2
-slice-write-part-2 c = simp length-set (omega arith)
+unfolding IsLe
+slice-write-part-2 c = inside c 1 (c .args .row .kind ∷ []) (le-by-compare 2 8 tt)
 
 slice-write-part-3 : tie.Need-slice-write-part-3
-slice-write-part-3 c = simp length-set (omega arith)
+unfolding IsLe
+slice-write-part-3 c = inside c 2 (c .args .row .kind ∷ c .args .row .mark ∷ []) (le-by-compare 3 8 tt)
 
 slice-write-part-4 : tie.Need-slice-write-part-4
-slice-write-part-4 c = simp length-set (omega arith)
+unfolding IsLe
+slice-write-part-4 c = inside c 3 (c .args .row .kind ∷ c .args .row .mark ∷ c .args .row .place ∷ []) (le-by-compare 4 8 tt)
 
 slice-write-part-5 : tie.Need-slice-write-part-5
-slice-write-part-5 c = simp length-set (omega arith)
+unfolding IsLe
+slice-write-part-5 c = inside c 4 (c .args .row .kind ∷ c .args .row .mark ∷ c .args .row .place ∷ c .args .row .c0 ∷ []) (le-by-compare 5 8 tt)
 
 slice-write-part-6 : tie.Need-slice-write-part-6
-slice-write-part-6 c = simp length-set (omega arith)
+unfolding IsLe
+slice-write-part-6 c = inside c 5 (c .args .row .kind ∷ c .args .row .mark ∷ c .args .row .place ∷ c .args .row .c0 ∷ c .args .row .c1 ∷ []) (le-by-compare 6 8 tt)
 
 slice-write-part-7 : tie.Need-slice-write-part-7
-slice-write-part-7 c = simp length-set (omega arith)
+unfolding IsLe
+slice-write-part-7 c = inside c 6 (c .args .row .kind ∷ c .args .row .mark ∷ c .args .row .place ∷ c .args .row .c0 ∷ c .args .row .c1 ∷ c .args .row .c2 ∷ []) (le-by-compare 7 8 tt)
 
 slice-write-part-8 : tie.Need-slice-write-part-8
-slice-write-part-8 c = search needs
+unfolding IsLe
+slice-write-part-8 c = inside c 7 (c .args .row .kind ∷ c .args .row .mark ∷ c .args .row .place ∷ c .args .row .c0 ∷ c .args .row .c1 ∷ c .args .row .c2 ∷ c .args .row .c3 ∷ []) (le-by-compare 8 8 tt)
 
 same-length : tie.Need-same-length
-same-length c = search needs
+same-length c = length-sets (c .args .part .now) 0 (words (c .args .row))
 
 returns : tie.Need-returns
-returns c = sets-eq (words (c .args .row)) (c .args .part .now) 0 (omega arith)
+returns c = sets-eq (words (c .args .row)) (c .args .part .now) 0 (c .pre)
 
 pub fill-spec : {M : Type 1} → statement M
 fill-spec =

@@ -3,15 +3,14 @@ use mathlib.Core.Path.{sym, _∙_}
 use native.Mathlib.Omega.{arith}
 use Rattle.rows.proofs.Laws.{inside}
 use Rattle.rows.specs.Rows.{kind-of}
-use borrow.Author.Needs.{needs}
 use Rattle.rows.proofs.kind.Statement.{statement}
 use Rattle.rows.proofs.kind.Tie as tie
 
 is-row-requires : tie.Need-is-row-requires
-is-row-requires c κs = search needs
+is-row-requires c κs = tt
 
 sub-i : tie.Need-sub-i
-sub-i c = omega (arith, inside _ _ (sym (c .before .is-row .ensures) ∙ c .if1 .taken))
+sub-i c = inside _ _ (sym (c .before .is-row .ensures) ∙ c .if1 .taken) .0
 
 mul-i : tie.Need-mul-i
 mul-i c = omega (arith, inside _ _ (sym (c .before .is-row .ensures) ∙ c .if1 .taken))

@@ -8,10 +8,10 @@ use Rattle.rows.proofs.link.Statement.{statement}
 use Rattle.rows.proofs.link.Tie as tie
 
 is-row-requires : tie.Need-is-row-requires
-is-row-requires c κs = search needs
+is-row-requires c κs = tt
 
 sub-i : tie.Need-sub-i
-sub-i c = omega (arith, inside _ _ (sym (c .before .is-row .ensures) ∙ c .if1 .taken))
+sub-i c = inside _ _ (sym (c .before .is-row .ensures) ∙ c .if1 .taken) .0
 
 mul-i : tie.Need-mul-i
 mul-i c = omega (arith, inside _ _ (sym (c .before .is-row .ensures) ∙ c .if1 .taken))

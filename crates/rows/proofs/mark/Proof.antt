@@ -8,10 +8,10 @@ use Rattle.rows.proofs.mark.Statement.{statement}
 use Rattle.rows.proofs.mark.Tie as tie
 
 is-row-requires : tie.Need-is-row-requires
-is-row-requires c κs = search needs
+is-row-requires c κs = tt
 
 sub-i : tie.Need-sub-i
-sub-i c = omega (arith, inside _ _ (sym (c .before .is-row .ensures) ∙ c .if1 .taken))
+sub-i c = inside _ _ (sym (c .before .is-row .ensures) ∙ c .if1 .taken) .0
 
 mul-i : tie.Need-mul-i
 mul-i c = omega (arith, inside _ _ (sym (c .before .is-row .ensures) ∙ c .if1 .taken))
@@ -26,7 +26,7 @@ slice-read-with-flag : tie.Need-slice-read-with-flag
 slice-read-with-flag c = omega (arith, inside _ _ (sym (c .before .before .is-row .ensures) ∙ c .before .if1 .taken))
 
 with-flag-requires : tie.Need-with-flag-requires
-with-flag-requires c κs = search needs
+with-flag-requires c κs = tt
 
 mul-pool : tie.Need-mul-pool
 mul-pool c = omega (arith, inside _ _ (sym (c .before .before .before .is-row .ensures) ∙ c .before .before .if1 .taken))

@@ -1,6 +1,5 @@
 -- `text::fold` meets its contract: the folded length tells the case, and only the last one writes.
 use mathlib.Core.Path.{refl, ap}
-use borrow.Author.Needs.{needs}
 use borrow.Author.Tests.{le-leb, lt-leb}
 use Rattle.text.specs.declared.Folded.the-variants.{Length}
 use Rattle.text.proofs.Cases.{paired, unpaired}
@@ -8,7 +7,7 @@ use Rattle.text.proofs.fold.Statement.{statement}
 use Rattle.text.proofs.fold.Tie as tie
 
 folded-length-requires : tie.Need-folded-length-requires
-folded-length-requires c κs = search needs
+folded-length-requires c κs = tt
 
 returns : tie.Need-returns
 returns c =
@@ -22,10 +21,10 @@ returns-2 c =
     rw (paired (called .before .before .before .args .payload .now) counted (c .before .if1 .left), ← counted, lt-leb _ _ (c .if2 .taken)) (refl, refl)
 
 write-folded-requires : tie.Need-write-folded-requires
-write-folded-requires c κs = search needs
+write-folded-requires c κs = rw (← c .before .before .before .folded-length .ensures) (c .before .if2 .left)
 
 same-length : tie.Need-same-length
-same-length c = search needs
+same-length c = c .before .before .write-folded .kept .1 .0
 
 returns-3 : tie.Need-returns-3
 returns-3 c =

@@ -1,6 +1,5 @@
 -- `text::text` meets its contract: the folded length tells the case, and each returns its part.
-use mathlib.Core.Path.{sym}
-use borrow.Author.Needs.{needs}
+use mathlib.Core.Path.{refl, sym}
 use borrow.Author.Tests.{le-leb, lt-leb}
 use lib.Seq.{length-take-le}
 use Rattle.text.proofs.Cases.{paired, unpaired}
@@ -8,7 +7,7 @@ use Rattle.text.proofs.text.Statement.{statement}
 use Rattle.text.proofs.text.Tie as tie
 
 folded-length-requires : tie.Need-folded-length-requires
-folded-length-requires c κs = search needs
+folded-length-requires c κs = tt
 
 returns : tie.Need-returns
 returns c =
@@ -26,7 +25,7 @@ returns-2 c =
     rw (paired (called .before .before .before .args .payload .now) counted (at-if2 .before .if1 .left), ← counted, le-leb _ _ (at-if2 .if2 .taken))
 
 slice-aggregate-result-2 : tie.Need-slice-aggregate-result-2
-slice-aggregate-result-2 c = search needs
+slice-aggregate-result-2 c = refl
 
 returns-3 : tie.Need-returns-3
 returns-3 c =

@@ -30,7 +30,7 @@ returns : tie.Need-returns
 returns c = sym (last (c .before .args .payload .now) (c .before .args .at) (c .if1 .taken))
 
 shared-slice-read-if2 : tie.Need-shared-slice-read-if2
-shared-slice-read-if2 c = search needs
+shared-slice-read-if2 c = c .before .before .pre
 
 -- past the test of the end, the next two bytes say the width
 tested : (c : tie.Else1) → width-of (drop (c .before .args .at) (c .before .args .payload .now)) ≡ choose (pair (getD (c .before .args .payload .now) (c .before .args .at) 0) (getD (c .before .args .payload .now) (c .before .args .at + 1) 0)) 2 1
