@@ -227,7 +227,8 @@ class Goals(Case):
 
 class Answers(Case):
     def test_head_and_answers(self):
-        head, _, given = self.answered("-- Comment.\nuse a.{b}\n----\n\nreturns c =\n    b\n    (c@pre)\n\nnext c = b\n")
+        text = "-- Comment.\nuse a.{b}\n----\n\nreturns c =\n    b\n    (c@pre)\n\nnext c = b\n"
+        head, _, given = self.answered(text)
         self.assertEqual(head, "-- Comment.\nuse a.{b}")
         self.assertEqual(given, {"returns": ("", "returns c =\n    b\n    (c@pre)"), "next": ("", "next c = b")})
 
@@ -262,7 +263,8 @@ class Answers(Case):
         self.assertEqual(self.answered(text)[2], {"returns": ("", "returns c =\n    b")})
 
     def test_facts(self):
-        facts = self.answered("----\n%B = (b c@x)\nfact here at r : One = one (a) $B\nfact there at q : f a ≡ b =\n    c@here .eq\n")[1]
+        text = "----\n%B = (b c@x)\nfact here at r : One = one (a) $B\nfact there at q : f a ≡ b =\n    c@here .eq\n"
+        facts = self.answered(text)[1]
         shown = [(f.name, f.field, f.type, f.proof) for f in facts.values()]
         here = ("here", "r", "One (a) (b c@x)", "one (a) (b c@x)")
         self.assertEqual(shown, [here, ("there", "q", "f a ≡ b", "c@here .eq")])
@@ -274,7 +276,7 @@ class Answers(Case):
 
 class Paths(Case):
     def path(self, text, place="After-put-row"):
-        return weave.paths(text, PLACES, place, "here")
+        return weave.paths(text, PLACES, place, "here", {})
 
     def test_paths(self):
         self.assertEqual(self.path("f (c@put-row .ensures)"), "f (c .put-row .ensures)")
@@ -283,7 +285,7 @@ class Paths(Case):
 
     def test_the_nearest_has_the_name(self):
         places = {"A": {"x": "X"}, "B": {"before": "A", "x": "X", "x2": "X"}}
-        self.assertEqual(weave.paths("c@x c@x2", places, "B", ""), "c .x c .x2")
+        self.assertEqual(weave.paths("c@x c@x2", places, "B", "", {}), "c .x c .x2")
 
     def test_facts_are_applied_to_their_places(self):
         facts = self.answered("----\nfact near at put-row : A = a\nfact far at Start : A = a\n")[1]
@@ -299,7 +301,8 @@ class Paths(Case):
 
 class Clauses(Case):
     def test_an_answer_that_is_given(self):
-        self.assertEqual(weave.clause("returns", {"returns": ("unfolding f", "returns c = a")}, "Start")[1], "returns c = a")
+        given = {"returns": ("unfolding f", "returns c = a")}
+        self.assertEqual(weave.clause("returns", given, "Start")[1], "returns c = a")
 
     def test_the_default(self):
         given = {"other": ("", "other c = a")}
@@ -436,10 +439,11 @@ class Singles(Case):
 
     def test_a_function_with_a_fact(self):
         self.put_leaf("")
-        text = self.woven(text="----\nfact far at slice-known : A c@pre = a c@pre\nreturns c = c@far\n")["part/leaf/Proof.antt"]
+        given = "----\nfact far at slice-known : A c@pre = a c@pre\nreturns c = c@far\n"
+        text = self.woven(text=given)["part/leaf/Proof.antt"]
         self.assertIn("\nfar : (c : tie.After-slice-known) → A c .before .pre\nfar c = a c .before .pre\n", text)
         self.assertIn("\nreturns c = far (c .before)\n", text)
-        self.refused("0 places have row, where the fact f", self.woven, "part/leaf", "----\nfact f at row : A = a\n")
+        self.refused("0 places have row, and not one", self.woven, "part/leaf", "----\nfact f at row : A = a\n")
 
     def test_what_is_refused(self):
         self.put_leaf("")
