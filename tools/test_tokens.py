@@ -145,6 +145,12 @@ class Commands(unittest.TestCase):
         code, data, _ = run("to-file", given=text)
         self.assertEqual((code, run("from-file", given=data)), (0, (0, text, b"")))
 
+    def test_places(self):
+        listed = b"0 if\n1 a\n2 ==\n3 'c'\n4 _EOF\n"
+        self.assertEqual(run("places", "if a == 'c'"), (0, listed, b""))
+        self.assertEqual(run("places", given=b"if a\n == 'c'\n"), (0, listed, b""))
+        self.assertEqual(run("places", "_E _NOEOF"), (0, b"0 _E\n", b""))
+
     def test_a_fault_is_said_in_one_line(self):
         code, out, error = run("to-words", "@")
         self.assertEqual((code, out, error), (1, b"", b"tokens: no token starts at '@'\n"))
@@ -152,6 +158,7 @@ class Commands(unittest.TestCase):
     def test_wrong_use(self):
         self.assertNotEqual(run()[0], 0)
         self.assertNotEqual(run("from-file", "x")[0], 0)
+        self.assertNotEqual(run("places", "--lines")[0], 0)
 
 
 if __name__ == "__main__":
