@@ -4,9 +4,10 @@ use mathlib.Core.List.{List, [], _∷_}
 use Prim.Native.Nat.{ℕ, zero, suc, _≤_}
 use native.Mathlib.Omega.{arith}
 use lib.ListN.{length, drop, length-drop}
-use Rattle.files.specs.declared.Field.{Field}
-use Rattle.files.specs.declared.Field.the-variants.{Good, Bad}
-use Rattle.files.specs.File.{first, fields}
+use Rattle.fields.specs.declared.Field.{Field}
+use Rattle.fields.specs.declared.Field.the-variants.{Good, Bad}
+use Rattle.fields.specs.Field.{first}
+use Rattle.files.specs.File.{fields}
 use Rattle.files.proofs.Pass.{taken, none-left, good-next, bad-next}
 
 -- two bounds that are no less than the number of the bytes

@@ -4,8 +4,9 @@ use mathlib.Core.List.{List, [], _∷_}
 use Prim.Native.Nat.{ℕ}
 use lib.ListN.{replicate}
 use Rattle.grammar.specs.Words.{class}
+use Rattle.fields.specs.Field.{allowed, first}
 use Rattle.files.specs.declared.Fields.{Fields}
-use Rattle.files.specs.File.{allowed, first, before, fields}
+use Rattle.files.specs.File.{before, fields}
 use Rattle.files.specs.Entry.{within, content, answer, file-answer, file-buffer}
 
 -- that a file is answered so, with these words left in a buffer of so many

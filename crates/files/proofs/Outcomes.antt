@@ -7,10 +7,11 @@ use native.Mathlib.Omega.{arith}
 use borrow.Author.Tests.{leb-true}
 use lib.Dec.{leb}
 use lib.ListN.{length}
-use Rattle.files.specs.declared.Field.{Field}
-use Rattle.files.specs.declared.Field.the-variants.{Good, Bad}
+use Rattle.fields.specs.declared.Field.{Field}
+use Rattle.fields.specs.declared.Field.the-variants.{Good, Bad}
+use Rattle.fields.specs.Field.{first}
 use Rattle.files.specs.declared.Fields.the-variants.{Count, Refused}
-use Rattle.files.specs.File.{Content, read, refused, NoRoom, BadField, TooLong, most, first, before, fields}
+use Rattle.files.specs.File.{Content, read, refused, NoRoom, BadField, TooLong, most, before, fields}
 use Rattle.files.specs.Entry.{within, content, answer, answered}
 use Rattle.files.proofs.Pass.{good-next, bad-next}
 

@@ -9,8 +9,9 @@ use borrow.Author.Tests.{leb-true}
 use lib.Dec.{leb}
 use lib.ListN.{length, drop, set, length-append, length-drop, drop-of-length-le}
 use lib.Seq.{drop-cons, drop-drop, append-snoc, set-at}
-use Rattle.files.specs.declared.Field.the-variants.{Good, Bad}
-use Rattle.files.specs.File.{Content, read, refused, BadField, head, allowed, first, before, fields}
+use Rattle.fields.specs.declared.Field.the-variants.{Good, Bad}
+use Rattle.fields.specs.Field.{head, allowed, first}
+use Rattle.files.specs.File.{Content, read, refused, BadField, before, fields}
 
 -- words, and then those that follow; a refusal stays
 unfoldable pub join : List ℕ → Content → Content

@@ -9,10 +9,11 @@ use borrow.Author.Needs.{needs}
 use borrow.Author.Tests.{le-leb, lt-leb}
 use lib.ListN.{length, drop, length-set, length-drop}
 use lib.Seq.{take-all}
+use Rattle.fields.specs.declared.Field.the-variants.{Good}
+use Rattle.fields.specs.Field.{first}
 use Rattle.files.specs.declared.Fields.{Fields}
 use Rattle.files.specs.declared.Fields.the-variants.{Count, Refused}
-use Rattle.files.specs.declared.Field.the-variants.{Good}
-use Rattle.files.specs.File.{Content, read, refused, most, first}
+use Rattle.files.specs.File.{Content, read, refused, most}
 use Rattle.files.specs.Entry.{within, content, answered}
 use Rattle.files.proofs.Pass.{Pass, begun, ended, stopped, on, turned}
 use Rattle.files.proofs.fill.Statement.{statement}

@@ -1,7 +1,7 @@
--- `files::is_coded` meets its contract: by its two tests.
+-- `fields::is_coded` meets its contract: by its two tests.
 use borrow.Author.Tests.{ne-eqb}
-use Rattle.files.proofs.is_coded.Statement.{statement}
-use Rattle.files.proofs.is_coded.Tie as tie
+use Rattle.fields.proofs.is_coded.Statement.{statement}
+use Rattle.fields.proofs.is_coded.Tie as tie
 
 returns : tie.Need-returns
 returns c = rw (c .if1 .taken)

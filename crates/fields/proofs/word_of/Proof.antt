@@ -1,11 +1,11 @@
--- `files::word_of` meets its contract: a tag that has a code, and one that has none.
+-- `fields::word_of` meets its contract: a tag that has a code, and one that has none.
 use mathlib.Core.Path.{sym, _∙_}
 use native.Mathlib.Nat.{add-zero}
 use native.Mathlib.Omega.{arith}
 use borrow.Author.Needs.{needs}
 use lib.Seq.{getD-drop}
-use Rattle.files.proofs.word_of.Statement.{statement}
-use Rattle.files.proofs.word_of.Tie as tie
+use Rattle.fields.proofs.word_of.Statement.{statement}
+use Rattle.fields.proofs.word_of.Tie as tie
 
 mul-class : tie.Need-mul-class
 mul-class c = search needs

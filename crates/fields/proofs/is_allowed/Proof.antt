@@ -1,4 +1,4 @@
--- `files::is_allowed` meets its contract: by the arms of its match.
+-- `fields::is_allowed` meets its contract: by the arms of its match.
 use mathlib.Core.Path.{_≡_, refl, sym, _∙_}
 use mathlib.Core.Bool.{Bool, true, false, cond, _&&_, _||_}
 use mathlib.Core.Logic.{_⊎_, inl, inr, ⊎-elim}
@@ -7,9 +7,9 @@ use native.Mathlib.Omega.{arith}
 use borrow.Author.Tests.{eq-eqb, ne-eqb, le-leb, lt-leb, eqb-false}
 use lib.Dec.{eqb, leb}
 use Rattle.grammar.specs.Words.{Operator, Keyword, class}
-use Rattle.files.specs.File.{coded, allowed, Unknown}
-use Rattle.files.proofs.is_allowed.Statement.{statement}
-use Rattle.files.proofs.is_allowed.Tie as tie
+use Rattle.fields.specs.Field.{coded, allowed, Unknown}
+use Rattle.fields.proofs.is_allowed.Statement.{statement}
+use Rattle.fields.proofs.is_allowed.Tie as tie
 
 -- what is not one of two is neither
 neither : {P Q : Type 0} → (P ⊎ Q → ⊥) → (P → ⊥) × (Q → ⊥)

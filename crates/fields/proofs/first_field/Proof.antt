@@ -1,4 +1,4 @@
--- `files::first_field` meets its contract: by the tests of the head and of the payload's length.
+-- `fields::first_field` meets its contract: by the tests of the head and of the payload's length.
 use mathlib.Core.Path.{_≡_, refl, sym, ap, _∙_}
 use mathlib.Core.Bool.{Bool, true, false, cond, _&&_}
 use mathlib.Core.List.{List, [], _∷_}
@@ -9,10 +9,10 @@ use borrow.Author.Tests.{eqb-true, le-leb, lt-leb, not-true, not-false}
 use lib.Dec.{leb}
 use lib.ListN.{length, getD, take, drop, length-drop}
 use lib.Seq.{getD-take}
-use Rattle.files.specs.declared.Field.the-variants.{Good, Bad}
-use Rattle.files.specs.File.{head, coded, allowed, word, first}
-use Rattle.files.proofs.first_field.Statement.{statement}
-use Rattle.files.proofs.first_field.Tie as tie
+use Rattle.fields.specs.declared.Field.the-variants.{Good, Bad}
+use Rattle.fields.specs.Field.{head, coded, allowed, word, first}
+use Rattle.fields.proofs.first_field.Statement.{statement}
+use Rattle.fields.proofs.first_field.Tie as tie
 
 -- a field whose head is cut
 cut : (part : List ℕ) → length part < 3 → first part ≡ Bad

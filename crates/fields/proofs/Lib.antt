@@ -1,0 +1,2 @@
+-- The theorem on the entry.
+pub mod Entries
