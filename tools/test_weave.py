@@ -262,6 +262,14 @@ class Answers(Case):
         text = "----\n-- on both\nreturns c =\n-- on b\n    b\n-- the end\n"
         self.assertEqual(self.answered(text)[2], {"returns": ("", "returns c =\n    b")})
 
+    def test_what_is_included(self):
+        self.put("lends.inc", "-- Shared.\n%SAME = c@CALLEE .kept\nmul-CALLEE c = a\nCALLEE-requires c κs = $SAME $OWN\n")
+        given = self.answered("----\n%OWN = b\ninclude lends.inc one-more\nreturns c = $SAME\n")[2]
+        self.assertEqual(given["mul-one-more"], ("", "mul-one-more c = a"))
+        self.assertEqual(given["one-more-requires"], ("", "one-more-requires c κs = c@one-more .kept b"))
+        self.assertEqual(given["returns"], ("", "returns c = c@one-more .kept"))
+        self.refused("there is no none.inc to include", self.answered, "----\ninclude none.inc a\n")
+
     def test_facts(self):
         text = "----\n%B = (b c@x)\nfact here at r : One = one (a) $B\nfact there at q : f a ≡ b =\n    c@here .eq\n"
         facts = self.answered(text)[1]
