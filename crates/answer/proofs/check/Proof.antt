@@ -13,10 +13,10 @@ check-requires : tie.Need-check-requires
 check-requires c κs = search needs
 
 enum-known-checked : tie.Need-enum-known-checked
-enum-known-checked c = search needs
+enum-known-checked c = c .match .keys1
 
 enum-told : tie.Need-enum-told
-enum-told c = search needs
+enum-told c = c .match .keys2
 
 returns : tie.Need-returns
 returns c = bad-start (c .before .before .before .before .before .args .tokens .now) (c .before .before .before .before .before .args .start) (sym (c .before .before .before .check .ensures) ∙ c .before .checked .given .1)

@@ -5,10 +5,10 @@ use Rattle.answer.proofs.finish.Statement.{statement}
 use Rattle.answer.proofs.finish.Tie as tie
 
 enum-known-r : tie.Need-enum-known-r
-enum-known-r c = search needs
+enum-known-r c = c .match .keys1
 
 enum-known-r-2 : tie.Need-enum-known-r-2
-enum-known-r-2 c = search needs
+enum-known-r-2 c = c .match .keys2
 
 clear-requires : tie.Need-clear-requires
 clear-requires c κs = search needs
