@@ -132,11 +132,14 @@ pub fn goes_on(order: usize, t: Token) -> bool
     if order_of(t) <= order {
         return false;
     }
+    if is_suffix(t) {
+        return true;
+    }
     let Token::Operator(s) = t else {
         return false;
     };
     match s {
-        Symbol::SIncr | Symbol::SDecr | Symbol::SLParen | Symbol::SLBox => true,
+        Symbol::SLParen | Symbol::SLBox => true,
         _ => is_infix(t),
     }
 }

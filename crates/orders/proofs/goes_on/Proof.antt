@@ -13,13 +13,16 @@ use Rattle.tokens.proofs.Arms.{operator-arm, token-arm}
 use Rattle.orders.proofs.goes_on.Statement.{statement}
 use Rattle.orders.proofs.goes_on.Tie as tie
 
--- The tags of a suffix operator and of what opens a call or an index.
+-- The tags of what opens a call or an index.
 abbrev tags : List ℕ
-tags = 29 ∷ 30 ∷ 5 ∷ 34 ∷ []
+tags = 5 ∷ 34 ∷ []
 
--- Whether a word is one of them.
-abbrev other : ℕ → Bool
-other w = eqb w g.SIncr || eqb w g.SDecr || eqb w g.SLParen || eqb w g.SLBox
+-- Whether a word is one of them, and whether it is a suffix operator.
+abbrev opens : ℕ → Bool
+opens w = eqb w g.SLParen || eqb w g.SLBox
+
+abbrev suffix : ℕ → Bool
+suffix w = eqb w g.SIncr || eqb w g.SDecr
 
 no-order : (a b : Bool) → (a && false && b) ≡ false
 no-order true b = refl
@@ -42,14 +45,29 @@ high pre w h = go (eqb w g.SSemiColon) refl
     go true e = absurd (semicolon pre w e h)
     go false e = rw (e, h)
 
--- Where a word is none of the others, it operates if it is an infix operator.
-only-infix : (w : ℕ) → other w ≡ false → g.operates w ≡ ltb 0 (g.infix-of w)
+-- A suffix operator operates.
+suffixed : (w : ℕ) → suffix w ≡ true → g.operates w ≡ true
 unfolding g.operates
-only-infix w e = go (ltb 0 (g.infix-of w)) refl
+suffixed w = go (ltb 0 (g.infix-of w)) (eqb w g.SIncr) (eqb w g.SDecr)
   where
-    go : (b : Bool) → ltb 0 (g.infix-of w) ≡ b → g.operates w ≡ b
-    go true i = rw i
-    go false i = rw (i, e)
+    go : (i a b : Bool) → (a || b) ≡ true → (i || a || b || eqb w g.SLParen || eqb w g.SLBox) ≡ true
+    go true a b e = refl
+    go false true b e = refl
+    go false false true e = refl
+    go false false false e = absurd (true≢false (sym e))
+
+-- A word that is neither a suffix operator nor opens operates if it is an infix operator.
+only-infix : (w : ℕ) → suffix w ≡ false → opens w ≡ false → g.operates w ≡ ltb 0 (g.infix-of w)
+unfolding g.operates
+only-infix w = go (ltb 0 (g.infix-of w)) (eqb w g.SIncr) (eqb w g.SDecr) (eqb w g.SLParen) (eqb w g.SLBox)
+  where
+    go : (i a b p l : Bool) → (a || b) ≡ false → (p || l) ≡ false → (i || a || b || p || l) ≡ i
+    go true a b p l e f = refl
+    go false true b p l e f = absurd (true≢false e)
+    go false false true p l e f = absurd (true≢false e)
+    go false false false true l e f = absurd (true≢false f)
+    go false false false false true e f = absurd (true≢false f)
+    go false false false false false e f = refl
 
 module _ (c : tie.Else1) where
   abbrev w : ℕ
@@ -64,27 +82,37 @@ order-of-requires c κs = search needs
 returns : tie.Need-returns
 returns c = sym (low _ _ (rw (← c .before .order-of .ensures) (le-ltb _ _ (c .if1 .taken))))
 
-enum-known-t : tie.Need-enum-known-t
-enum-known-t c = search needs
+is-suffix-requires : tie.Need-is-suffix-requires
+is-suffix-requires c κs = tt
 
 returns-2 : tie.Need-returns-2
-unfolding g.class g.code g.by-code g.infixes g.infix-of g.operates g.codes
-returns-2 c = sym (goes (c .before) ∙ not-true _ (token-arm (λ w. not (g.operates w)) (but (8 ∷ []) 11) (c .before .before .before .args .t) (c .match .keys2) refl))
+returns-2 c = sym (goes (c .before .before) ∙ suffixed _ (sym (c .before .is-suffix .ensures) ∙ c .if2 .taken))
 
-is-infix-requires : tie.Need-is-infix-requires
-is-infix-requires c κs = search needs
+enum-known-t : tie.Need-enum-known-t
+enum-known-t c = c .match .keys1
 
 returns-3 : tie.Need-returns-3
-unfolding g.class g.code g.by-code g.infixes g.infix-of g.operates
+unfolding g.class g.code g.by-code g.infixes g.infix-of g.operates g.codes
 returns-3 c =
-    let b = c .before .before in
-    sym (goes (b .before .before) ∙ operator-arm g.operates tags (b .t .given .1) (c .match2 .keys1) refl)
+    let b = c .before .before .before in
+    sym (goes b ∙ not-true _ (token-arm (λ w. not (g.operates w)) (but (8 ∷ []) 11) (b .before .before .args .t) (c .match .keys2) refl))
+
+is-infix-requires : tie.Need-is-infix-requires
+is-infix-requires c κs = tt
 
 returns-4 : tie.Need-returns-4
+unfolding g.class g.code g.by-code g.infixes g.infix-of g.operates
 returns-4 c =
+    let b = c .before .before in
+    sym (goes (b .before .before .before .before) ∙ operator-arm g.operates tags (b .t .given .1) (c .match2 .keys1) refl)
+
+returns-5 : tie.Need-returns-5
+returns-5 c =
     let b = c .before .before .before in
-    let rest = not-true _ (operator-arm (λ w. not (other w)) (but tags 41) (b .t .given .1) (c .before .match2 .keys2) refl) in
-    c .is-infix .ensures ∙ sym (ap (λ t. ltb 0 (g.infix-of (word t))) (b .t .given .1)) ∙ sym (goes (b .before .before) ∙ only-infix _ rest)
+    let d = b .before .before in
+    let rest = not-true _ (operator-arm (λ w. not (opens w)) (but tags 41) (b .t .given .1) (c .before .match2 .keys2) refl) in
+    c .is-infix .ensures ∙ sym (ap (λ t. ltb 0 (g.infix-of (word t))) (b .t .given .1))
+    ∙ sym (goes (d .before .before) ∙ only-infix _ (sym (d .before .is-suffix .ensures) ∙ d .if2 .left) rest)
 
 pub goes-on-spec : {M : Type 1} → statement M
 goes-on-spec =
@@ -92,8 +120,10 @@ goes-on-spec =
     (tie.spec
     order-of-requires
     returns
-    enum-known-t
+    is-suffix-requires
     returns-2
-    is-infix-requires
+    enum-known-t
     returns-3
-    returns-4)
+    is-infix-requires
+    returns-4
+    returns-5)
