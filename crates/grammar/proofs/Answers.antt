@@ -5,7 +5,7 @@ use native.Mathlib.Omega.{arith}
 use mathlib.Core.Path.{_≡_, refl, ap}
 use mathlib.Core.List.{append-nil, append-assoc}
 use lib.ListN.{replicate-append-replicate}
-use Rattle.grammar.specs.Tree.{Trees, nil, _▸_, sizes, lays}
+use Rattle.grammar.specs.Tree.{Trees, nil, _▸_, sizes, lays, width}
 use Rattle.grammar.specs.Parsed.{Parsed, refused, read, Unreached}
 use Rattle.grammar.specs.Script.{one-expression, one-statement, whole-script, rows, answer, pool}
 use Rattle.grammar.specs.Claims.{AnswersChains, Accepts, Accepted, ZeroAccepts, InLargerPool, MoreWords}
@@ -26,15 +26,15 @@ zero-accepts ts start room = (
 )
 
 -- A pool's rows hold no more words than it has, and more words are no fewer rows.
-rows-fit : (words : ℕ) → 8 * rows words ≤ words
+rows-fit : (words : ℕ) → width * rows words ≤ words
 unfolding rows
-rows-fit words = omega (arith, div-mul-le-self words 8)
+rows-fit words = omega (arith, div-mul-le-self words width)
 
 rows-grow : (words more : ℕ) → rows words ≤ rows (words + more)
 unfolding rows
 rows-grow words more =
-    let h : words / 8 ≤ (words + more) / 8 =
-    le-div-iff-mul-le {k = 8} {x = words / 8} {y = words + more} (omega arith) .1 (omega (arith, div-mul-le-self words 8)) in
+    let h : words / width ≤ (words + more) / width =
+    le-div-iff-mul-le {k = width} {x = words / width} {y = words + more} (omega arith) .1 (omega (arith, div-mul-le-self words width)) in
     omega arith
 
 module _ (entry : (room : ℕ) → Parsed Trees)
@@ -48,7 +48,7 @@ module _ (entry : (room : ℕ) → Parsed Trees)
         let record { trees = us; at = at; left = left; accepted = e } = accepts (entry (rows words)) (number (rows words)) h in
         let n : sizes us + left ≡ rows words = spends (rows words) us at left e in
         let q : rows words + (rows (words + more) - rows words) ≡ rows (words + more) = omega (arith, rows-grow words more) in
-        let z : words + more - 8 * sizes us ≡ words - 8 * sizes us + more = omega (arith, rows-fit words) in
+        let z : words + more - width * sizes us ≡ words - width * sizes us + more = omega (arith, rows-fit words) in
         let e′ : entry (rows (words + more)) ≡ read us at (left + (rows (words + more) - rows words)) =
         rw q at (grows (rows words) (rows (words + more) - rows words) us at left e) in
         (rw (e, e′), rw (e, e′, z) (rw append-assoc (rw replicate-append-replicate)))

@@ -10,9 +10,9 @@ use lib.Dec.{eqb}
 use lib.ListN.{length, getD, length-append, List·getD-append, replicate}
 use lib.Seq.{getD-append-add}
 use borrow.Author.Tests.{eqb-false}
-use Rattle.grammar.specs.Tree.{Tree, infixed, node, Trees, nil, _▸_, size, sizes, head-ref, row, lay, lays}
-use Rattle.grammar.specs.Claims.{Binds, Every, EveryOf, KeepsBut, word-of, RowBinds, RowRuled, RowsRuled, PoolKeepsRule}
-use Rattle.grammar.specs.Script.{one-expression, one-statement, whole-script, pool}
+use Rattle.grammar.specs.Tree.{Tree, infixed, node, Trees, nil, _▸_, size, sizes, head-ref, row, lay, lays, width}
+use Rattle.grammar.specs.Claims.{Binds, Every, EveryOf, KeepsBut, RowBinds, RowRuled, RowsRuled, PoolKeepsRule}
+use Rattle.grammar.specs.Script.{one-expression, one-statement, whole-script, pool, word-of}
 use Rattle.grammar.specs.Parsed.{Parsed, refused, read}
 use Rattle.grammar.proofs.Post.{Post, post-map}
 use Rattle.grammar.proofs.Runs.{Run}
@@ -21,14 +21,14 @@ use Rattle.grammar.proofs.Laws.{expression-entry, statement-entry, scri
 mutual
   unfolding lay
 
-  length-lay : (t : Tree) (first next : ℕ) → length (lay t first next) ≡ 8 * size t
+  length-lay : (t : Tree) (first next : ℕ) → length (lay t first next) ≡ width * size t
   length-lay (infixed m p l r) first next = simp length-append (omega (arith, length-lay l first 0, length-lay r (first + size l) 0))
   length-lay (node k m p a b c d) first next =
       let i = first + sizes a in
       let j = i + sizes b in
       simp length-append (omega (arith, length-lays a first, length-lays b i, length-lays c j, length-lays d (j + sizes c)))
 
-  length-lays : (ts : Trees) (first : ℕ) → length (lays ts first) ≡ 8 * sizes ts
+  length-lays : (ts : Trees) (first : ℕ) → length (lays ts first) ≡ width * sizes ts
   length-lays nil first = refl
   length-lays (t ▸ ts) first = simp length-append (omega (arith, length-lay t first (head-ref ts (first + size t)), length-lays ts (first + size t)))
 
@@ -37,18 +37,18 @@ record Held (ws : List ℕ) (i : ℕ) (vs : List ℕ) : Type 0 where
   before : List ℕ
   after : List ℕ
   whole : ws ≡ before ++ (vs ++ after)
-  seat : length before ≡ 8 * i
+  seat : length before ≡ width * i
 
 module _ {ws : List ℕ} {i : ℕ} where
-  held-split : (xs ys : List ℕ) (n : ℕ) → length xs ≡ 8 * n → Held ws i (xs ++ ys) → Held ws i xs × Held ws (i + n) ys
+  held-split : (xs ys : List ℕ) (n : ℕ) → length xs ≡ width * n → Held ws i (xs ++ ys) → Held ws i xs × Held ws (i + n) ys
   held-split xs ys n e h = (
     record { before = h .before; after = ys ++ h .after; whole = h .whole ∙ simp append-assoc; seat = h .seat },
     record { before = h .before ++ xs; after = h .after; whole = h .whole ∙ simp append-assoc; seat = simp length-append (omega (arith, h .seat)) },
   )
 
-  held-word : {vs : List ℕ} (k : ℕ) → k < length vs → Held ws i vs → getD ws (8 * i + k) 0 ≡ getD vs k 0
+  held-word : {vs : List ℕ} (k : ℕ) → k < length vs → Held ws i vs → getD ws (width * i + k) 0 ≡ getD vs k 0
   held-word {vs} k lt h =
-      ap (λ (x : List ℕ). getD x (8 * i + k) 0) (h .whole)
+      ap (λ (x : List ℕ). getD x (width * i + k) 0) (h .whole)
       ∙ rw (← h .seat) (getD-append-add (h .before) (vs ++ h .after) k 0)
       ∙ List·getD-append vs (h .after) 0 k lt
 
@@ -180,21 +180,21 @@ zeros (suc n) (suc i) = zeros n i
 
 pool-rows : (ts : List ℕ) (words : ℕ) (x : Parsed Trees) → Post (λ us c m. EveryOf (KeepsBut ts) us) x → RowsRuled ts (pool words x)
 unfolding pool
-pool-rows ts words (refused n p) h r lo e = let z : _≡_ {A = ℕ} 0 12 = sym (zeros words (8 * (r - 1) + 0)) ∙ e in absurd (omega arith)
+pool-rows ts words (refused n p) h r lo e = let z : _≡_ {A = ℕ} 0 12 = sym (zeros words (width * (r - 1) + 0)) ∙ e in absurd (omega arith)
 pool-rows ts words (read us at room) h r lo e = go (decLt (sizes us) r)
   where
     ws : List ℕ
-    ws = lays us 0 ++ replicate (words - 8 * sizes us) 0
+    ws = lays us 0 ++ replicate (words - width * sizes us) 0
 
     go : Dec (sizes us < r) → RowRuled ts ws r
     go (yes lt) =
-        let n = words - 8 * sizes us in
-        let i = 8 * (r - 1 - sizes us) in
-        let q : 8 * (r - 1) + 0 ≡ length (lays us 0) + i = omega (arith, length-lays us 0) in
-        let z : getD ws (8 * (r - 1) + 0) 0 ≡ 0 = rw q (getD-append-add (lays us 0) (replicate n 0) i 0 ∙ zeros n i) in
+        let n = words - width * sizes us in
+        let i = width * (r - 1 - sizes us) in
+        let q : width * (r - 1) + 0 ≡ length (lays us 0) + i = omega (arith, length-lays us 0) in
+        let z : getD ws (width * (r - 1) + 0) 0 ≡ 0 = rw q (getD-append-add (lays us 0) (replicate n 0) i 0 ∙ zeros n i) in
         absurd (omega (arith, sym z ∙ e))
     go (no ge) =
-        let all : Held ws 0 (lays us 0) = record { before = []; after = replicate (words - 8 * sizes us) 0; whole = refl; seat = refl } in
+        let all : Held ws 0 (lays us 0) = record { before = []; after = replicate (words - width * sizes us) 0; whole = refl; seat = refl } in
         trees-rows ts ws us 0 all h r (omega arith) (omega arith) e
 
 pub pool-rule : PoolKeepsRule

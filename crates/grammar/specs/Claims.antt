@@ -8,11 +8,11 @@ use lib.Dec.{eqb, ltb}
 use lib.ListN.{length, getD, take, replicate}
 use Rattle.grammar.specs.Words.{Integer, Str, Float, Char, Identifier, SSemiColon, SDot, KNone, KTrue, KFalse, tok, step, Zero, order, infix-of}
 use Rattle.grammar.specs.Words.{goes-on}
-use Rattle.grammar.specs.Tree.{Tree, infixed, node, Trees, nil, _▸_, size, sizes, lay, identifier, int, float, char, string, bool, none}
+use Rattle.grammar.specs.Tree.{Tree, infixed, node, Trees, nil, _▸_, size, sizes, lay, identifier, int, float, char, string, bool, none, width}
 use Rattle.grammar.specs.Parsed.{Parsed, refused, read, met, Unreached}
 use Rattle.grammar.specs.Expressions.{expression}
 use Rattle.grammar.specs.Statements.{statement}
-use Rattle.grammar.specs.Script.{nesting, array-good, one-expression, one-statement, whole-script, rows, answer, pool}
+use Rattle.grammar.specs.Script.{nesting, array-good, one-expression, one-statement, whole-script, rows, answer, pool, word-of}
 
 -- The three entries, from place 0.
 pub data Entry : Type 0 where
@@ -36,7 +36,7 @@ pub record Example : Type 0 where
 unfoldable pub found : Example → List ℕ
 found e =
     let p = entered (e .entry) (e .tokens) (e .room) in
-    answer p ++ take (length (e .laid)) (pool (8 * e .room) p)
+    answer p ++ take (length (e .laid)) (pool (width * e .room) p)
 
 -- What it is expected to give.
 unfoldable pub expected : Example → List ℕ
@@ -133,10 +133,6 @@ ZeroAccepts =
     → (Accepts (one-expression ts start room) → Accepted (one-expression ts start room))
     × (Accepts (one-statement ts start room) → Accepted (one-statement ts start room))
     × (Accepts (whole-script ts room) → Accepted (whole-script ts room))
-
--- A word of the row with a reference: 0 its kind, 1 its mark, 2 its place, 3 to 6 its children, 7 its next.
-abbrev pub word-of : List ℕ → (reference word : ℕ) → ℕ
-word-of pool r k = getD pool (8 * (r - 1) + k) 0
 
 -- An infix row of a pool that is in no brackets has the order `n` or a higher one.
 abbrev pub RowBinds : (ts pool : List ℕ) (n reference : ℕ) → Type 0
@@ -278,4 +274,4 @@ abbrev pub AnswersChains : Type 0
 AnswersChains =
     (ts : List ℕ) (deep s at used : ℕ) (parts : List Part) (g : Grouping ts deep s at used parts) (words : ℕ) → used ≤ rows words
     → (answer (one-expression ts s (rows words)) ≡ 0 ∷ used ∷ used ∷ at ∷ [])
-    × (pool words (one-expression ts s (rows words)) ≡ lay (g .tree) 0 0 ++ replicate (words - 8 * used) 0)
+    × (pool words (one-expression ts s (rows words)) ≡ lay (g .tree) 0 0 ++ replicate (words - width * used) 0)

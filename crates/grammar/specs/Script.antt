@@ -1,11 +1,11 @@
 -- The three entries: from an array, a start place and a pool to the answer and every word of the pool.
-use Prim.Native.Nat.{ℕ, suc, _-_, _*_, _/_, min}
+use Prim.Native.Nat.{ℕ, suc, _+_, _-_, _*_, _/_, min}
 use mathlib.Core.Bool.{not, _&&_}
 use mathlib.Core.List.{List, [], _∷_, _++_}
-use lib.ListN.{length, replicate}
+use lib.ListN.{length, getD, replicate}
 use lib.Dec.{eqb, ltb, leb}
 use Rattle.grammar.specs.Words.{EOF, valid, Zero}
-use Rattle.grammar.specs.Tree.{Trees, nil, _▸_, sizes, lays, block}
+use Rattle.grammar.specs.Tree.{Trees, nil, _▸_, sizes, lays, block, width}
 use Rattle.grammar.specs.Parsed.{Parsed, refused, read, _>>=_, Check, met, failed, need, _>>_, build, turns, BadArray, BadStart}
 use Rattle.grammar.specs.Expressions.{expression}
 use Rattle.grammar.specs.Statements.{statement, statements}
@@ -56,9 +56,16 @@ whole-script ts room = do
   (t, at, room) ← build (block 0 list) at room
   read (t ▸ nil) at room
 
--- The rows of a pool of so many words: eight words a row, and no more than 65,535 rows.
+-- The most rows of a pool, and the words that they take.
+abbrev pub most-rows : ℕ
+most-rows = 65535
+
+abbrev pub largest : ℕ
+largest = width * most-rows
+
+-- The rows of a pool of so many words.
 unfoldable pub rows : ℕ → ℕ
-rows words = min (words / 8) 65535
+rows words = min (words / width) most-rows
 
 -- The answer by number: 0, the root's reference, the rows used and the current place; or a refusal's number and place, and zeros.
 unfoldable pub answer : Parsed Trees → List ℕ
@@ -68,4 +75,8 @@ answer (read ts at room) = 0 ∷ sizes ts ∷ sizes ts ∷ at ∷ []
 -- Every word of a pool of so many words: the rows of what was read and then zeros, or all zeros after a refusal.
 unfoldable pub pool : (words : ℕ) → Parsed Trees → List ℕ
 pool words (refused n p) = replicate words 0
-pool words (read ts at room) = lays ts 0 ++ replicate (words - 8 * sizes ts) 0
+pool words (read ts at room) = lays ts 0 ++ replicate (words - width * sizes ts) 0
+
+-- A word of the row with a reference: 0 its kind, 1 its mark, 2 its place, 3 to 6 its children, 7 its next.
+abbrev pub word-of : List ℕ → (reference word : ℕ) → ℕ
+word-of pool r k = getD pool (width * (r - 1) + k) 0

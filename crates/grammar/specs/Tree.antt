@@ -32,7 +32,11 @@ abbrev pub head-ref : Trees → ℕ → ℕ
 head-ref nil first = 0
 head-ref (t ▸ ts) first = first + size t
 
--- The eight words of a row.
+-- How many words a row takes.
+abbrev pub width : ℕ
+width = 8
+
+-- The words of a row.
 abbrev pub row : (kind mark place c0 c1 c2 c3 next : ℕ) → List ℕ
 row k m p a b c d n = k ∷ m ∷ p ∷ a ∷ b ∷ c ∷ d ∷ n ∷ []
 

@@ -6,7 +6,7 @@ use Prim.Native.Nat.{ℕ, zero, suc, _+_, _*_, _/_, _≤_, _<_}
 use native.Mathlib.Omega.{arith}
 use native.Mathlib.Nat.{add-zero}
 use lib.ListN.{length, take, drop}
-use Rattle.grammar.specs.Tree.{Tree, Trees, nil, _▸_, size, head-ref, row, lay}
+use Rattle.grammar.specs.Tree.{Tree, Trees, nil, _▸_, size, head-ref, row, lay, width}
 use Rattle.grammar.specs.Parsed.{Parsed, refused, read, _>>=_, _>>_, need, build, choose}
 use Rattle.answer.specs.declared.Read.{Read}
 use Rattle.answer.specs.declared.Read.the-variants as the
@@ -134,7 +134,7 @@ sooner {A} {slot} {ts} {from} {P} {ss} {first} {r} {xs} {ys} {from′} le m = re
         record { rows = g .rows; is = g .is; stands = record { front = s .front; ends = s .ends; spent = s .spent; on = omega arith; within = s .within } }
 
 -- Nothing is read yet.
-pub at-once : {ts : List ℕ} {at : ℕ} (first : ℕ) (xs : List ℕ) → at < length ts → Stands ts at [] first 0 (length xs / 8) xs xs at
+pub at-once : {ts : List ℕ} {at : ℕ} (first : ℕ) (xs : List ℕ) → at < length ts → Stands ts at [] first 0 (length xs / width) xs xs at
 at-once first xs w = record { front = record { laid = refl; long = refl; fit = omega arith }; ends = omega arith; spent = omega arith; on = omega arith; within = w }
 
 -- The cursor moves on.
@@ -145,7 +145,7 @@ onward s le lt = let o = s .on in record { front = s .front; ends = s .ends; spe
 -- The row that ends a tree is built, behind what stands before the tree.
 pub built : {ts : List ℕ} {from : ℕ} {ss : List Trees} {first k left : ℕ} {xs ys zs : List ℕ} {at : ℕ} {kind m p c0 c1 c2 c3 : ℕ} {t : Tree} {r : Read} (bs : List Trees)
     → Stands ts from (bs ++ ss) first k left xs ys at → Ending t kind m p ss (after bs first) c0 c1 c2 c3
-    → k < length ys / 8 → zs ≡ take (8 * k) ys ++ (row kind m p c0 c1 c2 c3 0 ++ drop (8 * k + 8) ys) → r ≡ the.Tree (k + 1) (first + (k + 1)) at
+    → k < length ys / width → zs ≡ take (width * k) ys ++ (row kind m p c0 c1 c2 c3 0 ++ drop (width * k + width) ys) → r ≡ the.Tree (k + 1) (first + (k + 1)) at
     → Meets one ts from (build t at left) bs first r xs zs
 unfolding build lay
 built {ts} {from} {ss} {first} {k} {left} {xs} {ys} {zs} {at} {kind} {m} {p} {c0} {c1} {c2} {c3} {t} {r} bs s end lt e is = record { met = go left refl }
@@ -155,7 +155,7 @@ built {ts} {from} {ss} {first} {k} {left} {xs} {ys} {zs} {at} {kind} {m} {p} {c0
 
     go : (n : ℕ) → left ≡ n → Case one ts from (build t at n) bs first r xs zs
     go zero q =
-        let y : ⊥ = omega (arith, s .spent, ap (λ (i : ℕ). i / 8) same) in
+        let y : ⊥ = omega (arith, s .spent, ap (λ (i : ℕ). i / width) same) in
         absurd y
     go (suc n) q =
         let g : ℕ = after bs first in
@@ -182,25 +182,25 @@ built {ts} {from} {ss} {first} {k} {left} {xs} {ys} {zs} {at} {kind} {m} {p} {c0
 
 -- There is no row for it.
 pub full : {ts : List ℕ} {from : ℕ} {ss : List Trees} {first k left : ℕ} {xs ys zs : List ℕ} {at : ℕ} {r : Read} (bs : List Trees) (t : Tree)
-    → Stands ts from ss first k left xs ys at → length ys / 8 ≤ k → r ≡ the.Refused 3 at → Meets one ts from (build t at left) bs first r xs zs
+    → Stands ts from ss first k left xs ys at → length ys / width ≤ k → r ≡ the.Refused 3 at → Meets one ts from (build t at left) bs first r xs zs
 unfolding build
 full {ts} {from} {ss} {first} {k} {left} {xs} {ys} {zs} {at} {r} bs t s le is = record { met = go left refl }
   where
     go : (n : ℕ) → left ≡ n → Case one ts from (build t at n) bs first r xs zs
     go zero q = is
     go (suc n) q =
-        let y : ⊥ = omega (arith, s .spent, ap (λ (i : ℕ). i / 8) (front-same (s .front))) in
+        let y : ⊥ = omega (arith, s .spent, ap (λ (i : ℕ). i / width) (front-same (s .front))) in
         absurd y
 
 -- The numbers of an answer.
-pub bounded-tree : {ts xs : List ℕ} {at k h : ℕ} {d : ℕ} → 8 * k ≤ length xs → at ≤ d → d < length ts → Bounded ts xs at (the.Tree k h d)
+pub bounded-tree : {ts xs : List ℕ} {at k h : ℕ} {d : ℕ} → width * k ≤ length xs → at ≤ d → d < length ts → Bounded ts xs at (the.Tree k h d)
 bounded-tree a b c = record { bounded = (a, b, c) }
 
 pub bounded-refused : {ts xs : List ℕ} {at : ℕ} (n p : ℕ) → Bounded ts xs at (the.Refused n p)
 bounded-refused n p = record { bounded = tt }
 
 pub record Bounds (ts xs : List ℕ) (at k : ℕ) (d : ℕ) : Type 0 where
-  pub fit : 8 * k ≤ length xs
+  pub fit : width * k ≤ length xs
   pub on : at ≤ d
   pub within : d < length ts
 
@@ -216,7 +216,7 @@ later {ts} {xs} {ys} {at} {at′} {r} same le m = record { bounded = go r (m .bo
     go (the.Refused n p) b = tt
 
 -- No list is read yet.
-pub no-list : {ts : List ℕ} {at : ℕ} (first : ℕ) (xs : List ℕ) → at < length ts → Stands ts at (nil ∷ []) first 0 (length xs / 8) xs xs at
+pub no-list : {ts : List ℕ} {at : ℕ} (first : ℕ) (xs : List ℕ) → at < length ts → Stands ts at (nil ∷ []) first 0 (length xs / width) xs xs at
 unfolding lay
 no-list first xs w = record { front = record { laid = refl; long = refl; fit = omega arith }; ends = refl; spent = omega arith; on = omega arith; within = w }
 
@@ -230,7 +230,7 @@ bounded-told {n = n} {p = p} e = rw e (bounded-refused n p)
 
 -- An empty list was read.
 pub read-none : {ts : List ℕ} {d : ℕ} (first : ℕ) (xs : List ℕ) → d < length ts
-    → Meets (λ us. us) ts d (read nil d (length xs / 8)) [] first (the.Tree 0 0 d) xs xs
+    → Meets (λ us. us) ts d (read nil d (length xs / width)) [] first (the.Tree 0 0 d) xs xs
 read-none first xs w = record { met = record { rows = 0; is = refl; stands = no-list first xs w } }
 
 -- What stands in the part is the answer.

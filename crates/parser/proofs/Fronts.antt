@@ -6,6 +6,7 @@ use native.Mathlib.Omega.{arith}
 use lib.ListN.{length, take, drop, set, length-append, length-drop, length-set}
 use lib.Seq.{set-append-left, take-at, drop-drop, drop-append-add}
 use Rattle.parser.specs.Meets.{Front}
+use Rattle.grammar.specs.Tree.{width}
 
 pub front-none : (xs : List ℕ) → Front [] 0 xs xs
 front-none xs = record { laid = refl; long = refl; fit = omega arith }
@@ -14,22 +15,22 @@ pub front-same : {p : List ℕ} {k : ℕ} {xs ys : List ℕ} → Front p k xs ys
 front-same h = let a = h .fit in let b = h .long in rw (h .laid) (simp (length-append, length-drop) (omega arith))
 
 -- What stands behind the front is what stood there.
-pub front-drop : {p : List ℕ} {k : ℕ} {xs ys : List ℕ} → Front p k xs ys → (j : ℕ) → drop (8 * k + j) ys ≡ drop (8 * k + j) xs
+pub front-drop : {p : List ℕ} {k : ℕ} {xs ys : List ℕ} → Front p k xs ys → (j : ℕ) → drop (width * k + j) ys ≡ drop (width * k + j) xs
 front-drop {p} {k} {xs} {ys} h j =
     rw (h .laid) (rw (← h .long) (drop-append-add p (drop (length p) xs) j ∙ drop-drop j (length p) xs))
 
-pub front-take : {p : List ℕ} {k : ℕ} {xs ys : List ℕ} → Front p k xs ys → take (8 * k) ys ≡ p
-front-take {p} {k} {xs} {ys} h = rw (h .laid) (take-at p (drop (8 * k) xs) (8 * k) (h .long))
+pub front-take : {p : List ℕ} {k : ℕ} {xs ys : List ℕ} → Front p k xs ys → take (width * k) ys ≡ p
+front-take {p} {k} {xs} {ys} h = rw (h .laid) (take-at p (drop (width * k) xs) (width * k) (h .long))
 
 -- More rows behind the front.
-pub front-more : {p : List ℕ} {k : ℕ} {xs ys zs : List ℕ} (q : List ℕ) (j : ℕ) → Front p k xs ys → length q ≡ 8 * j → 8 * k + 8 * j ≤ length ys
-    → zs ≡ take (8 * k) ys ++ (q ++ drop (8 * k + 8 * j) ys) → Front (p ++ q) (k + j) xs zs
+pub front-more : {p : List ℕ} {k : ℕ} {xs ys zs : List ℕ} (q : List ℕ) (j : ℕ) → Front p k xs ys → length q ≡ width * j → width * k + width * j ≤ length ys
+    → zs ≡ take (width * k) ys ++ (q ++ drop (width * k + width * j) ys) → Front (p ++ q) (k + j) xs zs
 front-more {p} {k} {xs} {ys} {zs} q j h l le e =
     let s = front-same h in
     let a = h .long in
-    let d : 8 * (k + j) ≡ 8 * k + 8 * j = omega arith in
+    let d : width * (k + j) ≡ width * k + width * j = omega arith in
     record {
-      laid = e ∙ ap (λ (w : List ℕ). w ++ (q ++ drop (8 * k + 8 * j) ys)) (front-take h) ∙ ap (λ (w : List ℕ). p ++ (q ++ w)) (front-drop h (8 * j)) ∙ sym (append-assoc p q (drop (8 * k + 8 * j) xs)) ∙ ap (λ (n : ℕ). (p ++ q) ++ drop n xs) (sym d);
+      laid = e ∙ ap (λ (w : List ℕ). w ++ (q ++ drop (width * k + width * j) ys)) (front-take h) ∙ ap (λ (w : List ℕ). p ++ (q ++ w)) (front-drop h (width * j)) ∙ sym (append-assoc p q (drop (width * k + width * j) xs)) ∙ ap (λ (n : ℕ). (p ++ q) ++ drop n xs) (sym d);
       long = simp length-append (omega arith);
       fit = omega arith;
     }
@@ -39,10 +40,10 @@ pub front-eq : {p q : List ℕ} {k : ℕ} {xs ys : List ℕ} → p ≡ q → Fro
 front-eq e h = rw e at h
 
 -- A store into the front.
-pub front-set : {p : List ℕ} {k : ℕ} {xs ys : List ℕ} (i v : ℕ) → Front p k xs ys → i < 8 * k → Front (set p i v) k xs (set ys i v)
+pub front-set : {p : List ℕ} {k : ℕ} {xs ys : List ℕ} (i v : ℕ) → Front p k xs ys → i < width * k → Front (set p i v) k xs (set ys i v)
 front-set {p} {k} {xs} {ys} i v h lt =
     record {
-      laid = ap (λ (w : List ℕ). set w i v) (h .laid) ∙ set-append-left p (drop (8 * k) xs) i v (omega (arith, h .long));
+      laid = ap (λ (w : List ℕ). set w i v) (h .laid) ∙ set-append-left p (drop (width * k) xs) i v (omega (arith, h .long));
       long = length-set p i v ∙ h .long;
       fit = h .fit;
     }

@@ -8,11 +8,12 @@ use lib.Dec.{eqb, ltb}
 use mathlib.Core.Bool.{Bool, true, false, not, _&&_, and-false, and-eq-true-iff, false≢true}
 use borrow.Author.Tests.{ltb-false, eqb-true, eqb-false}
 use Rattle.grammar.specs.Words.{tok, step, is, next-is, EOF, SSemiColon, goes-on, operates, order, infix-of, by-code, class, infixes, orders}
-use Rattle.grammar.specs.Tree.{Trees}
+use Rattle.grammar.specs.Tree.{Trees, width}
 use Rattle.words.proofs.Steps.{step-on, step-within}
 use Rattle.parser.specs.Meets.{Sound, Ready, Front, Stands}
 use Rattle.parser.proofs.Answers.{onward}
 use Rattle.parser.proofs.Fronts.{front-same}
+use Rattle.grammar.specs.Script.{largest}
 
 module _ (ts : List ℕ) (at : ℕ) {b : ℕ} (e : b ≡ step ts at) where
   pub on-step : at ≤ b
@@ -89,11 +90,11 @@ pub falls : (l n a b r s t : ℕ) → 16 * (l + (n - a)) + r ≡ t → a ≤ b �
 falls l n a b r s t e le lt = omega arith
 
 -- Rows in the part fit a pool as long.
-pub front-le : {p : List ℕ} {k : ℕ} {xs ys : List ℕ} → Front p k xs ys → 8 * k ≤ length ys
+pub front-le : {p : List ℕ} {k : ℕ} {xs ys : List ℕ} → Front p k xs ys → width * k ≤ length ys
 front-le h = omega (arith, h .fit, front-same h)
 
 -- So does a part as long as another.
-pub fits-same : (f m n : ℕ) → 8 * f + m ≤ 524280 → n ≡ m → 8 * f + n ≤ 524280
+pub fits-same : (f m n : ℕ) → width * f + m ≤ largest → n ≡ m → width * f + n ≤ largest
 fits-same f m n h e = omega arith
 
 pub le-refl : (a : ℕ) → a ≤ a

@@ -6,7 +6,7 @@ use native.Mathlib.Omega.{arith}
 use lib.ListN.{length, take, drop, length-drop, drop-of-length-le}
 use lib.Seq.{take-all, drop-drop}
 use borrow.Rule.Slice.PartMut.{putMid, same-len-mid}
-use Rattle.grammar.specs.Tree.{Trees, sizes, lays, head-ref}
+use Rattle.grammar.specs.Tree.{Trees, sizes, lays, head-ref, width}
 use Rattle.grammar.specs.Parsed.{Parsed, refused, read}
 use Rattle.answer.specs.declared.Read.{Read}
 use Rattle.answer.specs.declared.Read.the-variants as the
@@ -17,25 +17,25 @@ use Rattle.parser.proofs.Answers.{not-both, Taken, taken}
 
 -- The part from row k on, as it is lent.
 abbrev pub part : ℕ → List ℕ → List ℕ
-part k ys = take (length ys - 8 * k) (drop (8 * k) ys)
+part k ys = take (length ys - width * k) (drop (width * k) ys)
 
-part-is : (k : ℕ) (ys : List ℕ) → part k ys ≡ drop (8 * k) ys
-part-is k ys = take-all (length ys - 8 * k) (drop (8 * k) ys) (simp length-drop (omega arith))
+part-is : (k : ℕ) (ys : List ℕ) → part k ys ≡ drop (width * k) ys
+part-is k ys = take-all (length ys - width * k) (drop (width * k) ys) (simp length-drop (omega arith))
 
-pub part-length : (k : ℕ) (ys : List ℕ) → length (part k ys) ≡ length ys - 8 * k
-part-length k ys = ap length (part-is k ys) ∙ length-drop (8 * k) ys
+pub part-length : (k : ℕ) (ys : List ℕ) → length (part k ys) ≡ length ys - width * k
+part-length k ys = ap length (part-is k ys) ∙ length-drop (width * k) ys
 
 -- The pool, with zs where the part was.
 abbrev pub back : ℕ → List ℕ → List ℕ → List ℕ
-back k ys zs = putMid (8 * k) (length ys - 8 * k) ys zs
+back k ys zs = putMid (width * k) (length ys - width * k) ys zs
 
-back-is : (k : ℕ) (ys zs : List ℕ) → 8 * k ≤ length ys → back k ys zs ≡ take (8 * k) ys ++ zs
+back-is : (k : ℕ) (ys zs : List ℕ) → width * k ≤ length ys → back k ys zs ≡ take (width * k) ys ++ zs
 back-is k ys zs le =
-    let e : drop (length ys - 8 * k) (drop (8 * k) ys) ≡ [] = drop-of-length-le (drop (8 * k) ys) {i = length ys - 8 * k} (simp length-drop (omega arith)) in
-    ap (λ (w : List ℕ). take (8 * k) ys ++ (zs ++ w)) e ∙ ap (λ (w : List ℕ). take (8 * k) ys ++ w) (append-nil zs)
+    let e : drop (length ys - width * k) (drop (width * k) ys) ≡ [] = drop-of-length-le (drop (width * k) ys) {i = length ys - width * k} (simp length-drop (omega arith)) in
+    ap (λ (w : List ℕ). take (width * k) ys ++ (zs ++ w)) e ∙ ap (λ (w : List ℕ). take (width * k) ys ++ w) (append-nil zs)
 
 pub back-same : (k : ℕ) (ys zs : List ℕ) → length zs ≡ length (part k ys) → length (back k ys zs) ≡ length ys
-back-same k ys zs e = same-len-mid (8 * k) (length ys - 8 * k) ys zs e
+back-same k ys zs e = same-len-mid (width * k) (length ys - width * k) ys zs e
 
 -- Rows behind rows.
 front-part : {p q : List ℕ} {k j : ℕ} {xs ys zs : List ℕ} → Front p k xs ys → Front q j (part k ys) zs → Front (p ++ q) (k + j) xs (back k ys zs)
@@ -46,17 +46,17 @@ front-part {p} {q} {k} {j} {xs} {ys} {zs} h g =
     let pl = part-length k ys in
     front-more q j h (g .long) (omega arith)
     (back-is k ys zs (omega arith)
-    ∙ ap (λ (w : List ℕ). take (8 * k) ys ++ w) (g .laid ∙ ap (λ (w : List ℕ). q ++ drop (8 * j) w) (part-is k ys) ∙ ap (λ (w : List ℕ). q ++ w) (drop-drop (8 * j) (8 * k) ys)))
+    ∙ ap (λ (w : List ℕ). take (width * k) ys ++ w) (g .laid ∙ ap (λ (w : List ℕ). q ++ drop (width * j) w) (part-is k ys) ∙ ap (λ (w : List ℕ). q ++ w) (drop-drop (width * j) (width * k) ys)))
 
 -- What is asked of a part that is lent.
-pub ready-lent : {ts ys : List ℕ} {first at : ℕ} (k : ℕ) → Ready ts ys first at → 8 * k ≤ length ys → Ready ts (part k ys) (first + k) at
+pub ready-lent : {ts ys : List ℕ} {first at : ℕ} (k : ℕ) → Ready ts ys first at → width * k ≤ length ys → Ready ts (part k ys) (first + k) at
 ready-lent {ts} {ys} {first} k h le =
     let l = part-length k ys in
     let w = h .whole in
     record { sound = h .sound; within = h .within; whole = omega arith; fits = omega (arith, h .fits) }
 
 -- The rows of the part are those that are left.
-pub room-left : {ts : List ℕ} {from : ℕ} {ss : List Trees} {first k left : ℕ} {xs ys : List ℕ} {at : ℕ} → Stands ts from ss first k left xs ys at → left ≡ length (part k ys) / 8
+pub room-left : {ts : List ℕ} {from : ℕ} {ss : List Trees} {first k left : ℕ} {xs ys : List ℕ} {at : ℕ} → Stands ts from ss first k left xs ys at → left ≡ length (part k ys) / width
 room-left {k = k} {ys = ys} s = omega (arith, s .spent, part-length k ys, front-same (s .front), s .front .fit)
 
 -- What was read into the part stands behind the slots.
@@ -101,5 +101,5 @@ back-refused {A} {slot} {ts} {at} {P} {ss} {first} {r} {xs} {ys} {n} {p} {from�
 
 -- A reader of the part has the rows that are left.
 pub in-part : {A : Type 0} {slot : A → Trees} {ts : List ℕ} {from : ℕ} {ss : List Trees} {first k left : ℕ} {xs ys : List ℕ} {at b f : ℕ} {r : Read} {vs ws : List ℕ} (reader : ℕ → Parsed A)
-    → Stands ts from ss first k left xs ys at → Meets slot ts b (reader (length (part k ys) / 8)) [] f r vs ws → Meets slot ts b (reader left) [] f r vs ws
+    → Stands ts from ss first k left xs ys at → Meets slot ts b (reader (length (part k ys) / width)) [] f r vs ws → Meets slot ts b (reader left) [] f r vs ws
 in-part {slot = slot} {ts = ts} {b = b} {f = f} {r = r} {vs = vs} {ws = ws} reader s m = rw (room-left s) m

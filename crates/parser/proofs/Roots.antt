@@ -6,7 +6,7 @@ use native.Mathlib.Omega.{arith}
 use native.Mathlib.Nat.{add-zero}
 use lib.Dec.{eqb}
 use lib.ListN.{length, drop, length-append}
-use Rattle.grammar.specs.Tree.{Tree, infixed, node, Trees, nil, _▸_, size, sizes, head-ref, row, lay, lays, join, flag, flagged, is-call}
+use Rattle.grammar.specs.Tree.{Tree, infixed, node, Trees, nil, _▸_, size, sizes, head-ref, row, lay, lays, join, flag, flagged, is-call, width}
 use Rattle.rows.specs.Rows.{marked, linked, kind-of, bit, is-row}
 use Rattle.rows.specs.declared.Flag.{Flag}
 use Rattle.rows.proofs.Laws.{marked-there, linked-there, kind-there}
@@ -69,14 +69,14 @@ unfolding is-call last-of
 called (infixed m p l r) f = refl
 called (node k m p a b c d) f = refl
 
-body-length : (t : Tree) (f : ℕ) → length (body-of t f) + 8 ≡ 8 * size t
+body-length : (t : Tree) (f : ℕ) → length (body-of t f) + width ≡ width * size t
 body-length t f = sym (length-append (body-of t f) (words (last-of t f) (mark-of t) 0)) ∙ ap length (sym (parted t f 0)) ∙ lay-length t f 0
 
 -- ---- one tree in the first rows of a part
 
 module _ {ts : List ℕ} {from : ℕ} {first k left : ℕ} {xs ys : List ℕ} {at : ℕ} (t : Tree) (s : Stands ts from ((t ▸ nil) ∷ []) first k left xs ys at) where
   rest : List ℕ
-  rest = drop (8 * k) xs
+  rest = drop (width * k) xs
 
   rows : size t ≡ k
   rows = omega (arith, s .ends)
@@ -85,10 +85,10 @@ module _ {ts : List ℕ} {from : ℕ} {first k left : ℕ} {xs ys : List ℕ} {a
   unfolding lay rest
   as-laid =
       s .front .laid
-      ∙ ap (λ (w : List ℕ). w ++ drop (8 * k) xs) (append-nil (lay t first 0 ++ []) ∙ append-nil (lay t first 0) ∙ parted t first 0)
-      ∙ append-assoc (body-of t first) (words (last-of t first) (mark-of t) 0) (drop (8 * k) xs)
+      ∙ ap (λ (w : List ℕ). w ++ drop (width * k) xs) (append-nil (lay t first 0 ++ []) ∙ append-nil (lay t first 0) ∙ parted t first 0)
+      ∙ append-assoc (body-of t first) (words (last-of t first) (mark-of t) 0) (drop (width * k) xs)
 
-  before : length (body-of t first) ≡ 8 * (k - 1)
+  before : length (body-of t first) ≡ width * (k - 1)
   before = omega (arith, body-length t first, rows, some-rows t)
 
   ref : k ≡ k - 1 + 1
@@ -107,7 +107,7 @@ module _ {ts : List ℕ} {from : ℕ} {first k left : ℕ} {xs ys : List ℕ} {a
   unfolding lay rest
   stands-marked f =
       let w = last-of t first in
-      let e : marked ys k f ≡ (lay (flagged (bit f) t) first 0 ++ []) ++ [] ++ drop (8 * k) xs =
+      let e : marked ys k f ≡ (lay (flagged (bit f) t) first 0 ++ []) ++ [] ++ drop (width * k) xs =
       ap (λ (l : List ℕ). marked l k f) as-laid ∙ ap (λ (i : ℕ). marked (body-of t first ++ (words w (mark-of t) 0 ++ rest)) i f) ref
       ∙ marked-there (body-of t first) rest (k - 1) before (w .kind) (mark-of t) (w .place) (w .c0) (w .c1) (w .c2) (w .c3) 0 f
       ∙ sym (append-assoc (body-of t first) (words w (flag (bit f) (mark-of t)) 0) rest)
@@ -116,7 +116,7 @@ module _ {ts : List ℕ} {from : ℕ} {first k left : ℕ} {xs ys : List ℕ} {a
       record {
         front = record {
           laid = e;
-          long = rw (append-nil, append-nil) (lay-length (flagged (bit f) t) first 0 ∙ ap (λ (i : ℕ). 8 * i) (z ∙ rows));
+          long = rw (append-nil, append-nil) (lay-length (flagged (bit f) t) first 0 ∙ ap (λ (i : ℕ). width * i) (z ∙ rows));
           fit = s .front .fit;
         };
         ends = omega (arith, s .ends, z);
@@ -158,7 +158,7 @@ record Last (t : Tree) (us : Trees) (f : ℕ) : Type 0 where
   last : Words
   mark : ℕ
   is : (next : ℕ) → lays-to t us f next ≡ body ++ words last mark next
-  long : length body + 8 ≡ 8 * sizes (t ▸ us)
+  long : length body + width ≡ width * sizes (t ▸ us)
 
 last-row : (t : Tree) (us : Trees) (f : ℕ) → Last t us f
 unfolding lays-to
@@ -182,7 +182,7 @@ link-joins t us vs f k q e =
     let v : ℕ = head-ref vs (f + sizes (t ▸ us)) in
     let b : List ℕ = lays vs (f + sizes (t ▸ us)) in
     let w = r .last in
-    let l : length (r .body) ≡ 8 * (k - 1) = omega (arith, r .long, some-rows t) in
+    let l : length (r .body) ≡ width * (k - 1) = omega (arith, r .long, some-rows t) in
     let i : k ≡ k - 1 + 1 = omega (arith, some-rows t) in
     ap (λ (x : List ℕ). linked (x ++ (b ++ q)) k v) (alone t us f ∙ r .is 0)
     ∙ ap (λ (x : List ℕ). linked x k v) (append-assoc (r .body) (words w (r .mark) 0) (b ++ q))
@@ -209,7 +209,7 @@ stands-linked {ts} {from} {first} {m} {left} {xs} {ys} {at} us vs k h s e eh =
     let ends = s .ends in
     record {
       front = record {
-        laid = ap (λ (x : List ℕ). linked x k h) (s .front .laid) ∙ ap (linked (lay-slots (us ∷ vs ∷ []) first ++ drop (8 * m) xs) k) eh ∙ link-slots us vs first k (drop (8 * m) xs) (omega arith);
+        laid = ap (λ (x : List ℕ). linked x k h) (s .front .laid) ∙ ap (linked (lay-slots (us ∷ vs ∷ []) first ++ drop (width * m) xs) k) eh ∙ link-slots us vs first k (drop (width * m) xs) (omega arith);
         long = ap length (append-nil (lays (join us vs) first)) ∙ lays-length (join us vs) first ∙ omega arith;
         fit = s .front .fit;
       };

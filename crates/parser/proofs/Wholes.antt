@@ -11,7 +11,7 @@ use lib.Seq.{drop-at, take-at}
 use borrow.Author.Tests.{ltb-true, lt-ltb}
 use borrow.Rule.Slice.PartMut.{putMid}
 use Rattle.grammar.specs.Words.{Empty, is}
-use Rattle.grammar.specs.Tree.{Tree, Trees, nil, _▸_, sizes, head-ref, lay, lays}
+use Rattle.grammar.specs.Tree.{Tree, Trees, nil, _▸_, sizes, head-ref, lay, lays, width}
 use Rattle.grammar.specs.Parsed.{Parsed, refused, read, _>>=_, Check, met, failed, need, _>>_, choose, BadStart}
 use Rattle.grammar.specs.Statements as s
 use Rattle.grammar.specs.Script.{both, array-good, rows, pool, whole-script}
@@ -93,16 +93,16 @@ pub back-zeros : {ys : List ℕ} (k n : ℕ) (zs : List ℕ) → ys ≡ replicat
 back-zeros k n zs e h = rw (e, sub-zero k) (ap (λ (w : List ℕ). zs ++ w) (zeros-drop k n h))
 
 -- How many words are lent.
-pub few-words : (n : ℕ) → 8 * rows n ≤ n
+pub few-words : (n : ℕ) → width * rows n ≤ n
 unfolding rows
 few-words n = omega arith
 
-pub ready-whole : {ts xs : List ℕ} {at : ℕ} (n : ℕ) → array-good ts ≡ met → at < length ts → length xs ≡ 8 * rows n → Ready ts xs 0 at
+pub ready-whole : {ts xs : List ℕ} {at : ℕ} (n : ℕ) → array-good ts ≡ met → at < length ts → length xs ≡ width * rows n → Ready ts xs 0 at
 unfolding rows
 ready-whole n g w e = record { sound = sound g; within = w; whole = omega arith; fits = omega arith }
 
-pub all-rows : {xs : List ℕ} (n : ℕ) → xs ≡ replicate (8 * rows n) 0 → length xs / 8 ≡ rows n
-all-rows n e = ap (λ (l : List ℕ). length l / 8) e ∙ ap (λ (i : ℕ). i / 8) (length-replicate (8 * rows n) 0) ∙ omega arith
+pub all-rows : {xs : List ℕ} (n : ℕ) → xs ≡ replicate (width * rows n) 0 → length xs / width ≡ rows n
+all-rows n e = ap (λ (l : List ℕ). length l / width) e ∙ ap (λ (i : ℕ). i / width) (length-replicate (width * rows n) 0) ∙ omega arith
 
 -- ---- the answer
 
@@ -111,34 +111,34 @@ abbrev pub Alone : Parsed Trees → Type 0
 Alone P = (us : Trees) (at left : ℕ) → P ≡ read us at left → head-ref us 0 ≡ sizes us
 
 -- A reader's answer and part, as an entry's answer and pool.
-pub entered : {ts : List ℕ} {from : ℕ} {P : Parsed Trees} {r : Read} {xs ys : List ℕ} (n : ℕ) → Alone P → xs ≡ replicate (8 * rows n) 0 → length ys ≡ length xs
-    → Meets many ts from P [] 0 r xs ys → Entered P (ended r) n (ended-pool r (ys ++ replicate (n - 8 * rows n) 0))
+pub entered : {ts : List ℕ} {from : ℕ} {P : Parsed Trees} {r : Read} {xs ys : List ℕ} (n : ℕ) → Alone P → xs ≡ replicate (width * rows n) 0 → length ys ≡ length xs
+    → Meets many ts from P [] 0 r xs ys → Entered P (ended r) n (ended-pool r (ys ++ replicate (n - width * rows n) 0))
 unfolding pool lay
 entered {ts} {from} {P} {r} {xs} {ys} n alone z same m = go P alone (m .met)
   where
-    long : length ys ≡ 8 * rows n
-    long = same ∙ ap length z ∙ length-replicate (8 * rows n) 0
+    long : length ys ≡ width * rows n
+    long = same ∙ ap length z ∙ length-replicate (width * rows n) 0
 
-    go : (Q : Parsed Trees) → Alone Q → Case many ts from Q [] 0 r xs ys → Entered Q (ended r) n (ended-pool r (ys ++ replicate (n - 8 * rows n) 0))
+    go : (Q : Parsed Trees) → Alone Q → Case many ts from Q [] 0 r xs ys → Entered Q (ended r) n (ended-pool r (ys ++ replicate (n - width * rows n) 0))
     go (refused a b) al q =
-        let e : length ys + length (replicate {A = ℕ} (n - 8 * rows n) 0) ≡ n = omega (arith, long, length-replicate {A = ℕ} (n - 8 * rows n) 0, few-words n) in
-        rw q (record { answer = refl; left = ap (λ (i : ℕ). replicate i 0) (length-append ys (replicate (n - 8 * rows n) 0) ∙ e) })
+        let e : length ys + length (replicate {A = ℕ} (n - width * rows n) 0) ≡ n = omega (arith, long, length-replicate {A = ℕ} (n - width * rows n) 0, few-words n) in
+        rw q (record { answer = refl; left = ap (λ (i : ℕ). replicate i 0) (length-append ys (replicate (n - width * rows n) 0) ∙ e) })
     go (read us at left) al g =
         let st = g .stands in
         let rs : g .rows ≡ sizes us = omega (arith, st .ends) in
         let hd : head-ref us 0 ≡ sizes us = al us at left refl in
         let fit = st .front .fit in
-        let k : 8 * sizes us ≤ 8 * rows n = omega (arith, rs, ap length z, length-replicate {A = ℕ} (8 * rows n) 0) in
-        let body : ys ≡ lays us 0 ++ replicate (8 * rows n - 8 * sizes us) 0 =
-        st .front .laid ∙ ap (λ (l : List ℕ). l ++ drop (8 * g .rows) xs) (append-nil (lays us 0))
-        ∙ ap (λ (i : ℕ). lays us 0 ++ drop (8 * i) xs) rs ∙ ap (λ (l : List ℕ). lays us 0 ++ drop (8 * sizes us) l) z
-        ∙ ap (λ (l : List ℕ). lays us 0 ++ l) (zeros-drop (8 * sizes us) (8 * rows n) k) in
-        let e : 8 * rows n - 8 * sizes us + (n - 8 * rows n) ≡ n - 8 * sizes us = omega (arith, few-words n) in
+        let k : width * sizes us ≤ width * rows n = omega (arith, rs, ap length z, length-replicate {A = ℕ} (width * rows n) 0) in
+        let body : ys ≡ lays us 0 ++ replicate (width * rows n - width * sizes us) 0 =
+        st .front .laid ∙ ap (λ (l : List ℕ). l ++ drop (width * g .rows) xs) (append-nil (lays us 0))
+        ∙ ap (λ (i : ℕ). lays us 0 ++ drop (width * i) xs) rs ∙ ap (λ (l : List ℕ). lays us 0 ++ drop (width * sizes us) l) z
+        ∙ ap (λ (l : List ℕ). lays us 0 ++ l) (zeros-drop (width * sizes us) (width * rows n) k) in
+        let e : width * rows n - width * sizes us + (n - width * rows n) ≡ n - width * sizes us = omega (arith, few-words n) in
         rw (g .is)
         (record {
           answer = cc (rs, hd);
-          left = ap (λ (l : List ℕ). l ++ replicate (n - 8 * rows n) 0) body ∙ append-assoc (lays us 0) _ _
-              ∙ ap (λ (l : List ℕ). lays us 0 ++ l) (replicate-append-replicate (8 * rows n - 8 * sizes us) (n - 8 * rows n) 0 ∙ ap (λ (i : ℕ). replicate i 0) e);
+          left = ap (λ (l : List ℕ). l ++ replicate (n - width * rows n) 0) body ∙ append-assoc (lays us 0) _ _
+              ∙ ap (λ (l : List ℕ). lays us 0 ++ l) (replicate-append-replicate (width * rows n - width * sizes us) (n - width * rows n) 0 ∙ ap (λ (i : ℕ). replicate i 0) e);
         })
 
 -- One tree is alone.
@@ -164,7 +164,7 @@ pub alone-by : {P Q : Parsed Trees} → P ≡ Q → Alone Q → Alone P
 alone-by e h us at left q = h us at left (sym e ∙ q)
 
 -- What a reader did in the lent part, once the pool is back and finished with.
-pub finished : {ts : List ℕ} {from : ℕ} {P : Parsed Trees} {r : Read} {xs zs : List ℕ} {a : Answer} {ys : List ℕ} (n k : ℕ) → xs ≡ replicate n 0 → k ≡ 8 * rows n → Alone P
+pub finished : {ts : List ℕ} {from : ℕ} {P : Parsed Trees} {r : Read} {xs zs : List ℕ} {a : Answer} {ys : List ℕ} (n k : ℕ) → xs ≡ replicate n 0 → k ≡ width * rows n → Alone P
     → length zs ≡ length (take (k - 0) (drop 0 xs)) → Meets many ts from P [] 0 r (take (k - 0) (drop 0 xs)) zs → a ≡ ended r → ys ≡ ended-pool r (putMid 0 (k - 0) xs zs)
     → Entered P a n ys
 finished {r = r} {xs = xs} {zs = zs} n k z e alone same m ea ey =

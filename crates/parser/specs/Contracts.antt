@@ -6,7 +6,7 @@ use mathlib.Core.List.{List, [], _∷_, _++_}
 use lib.ListN.{length}
 use lib.Dec.{eqb}
 use Rattle.grammar.specs.Words.{EOF, SLBrace, KIf, KWhile, KFor, KConst, KVar, KFunc, KTry, KThrow, KForEach, KAssert, Zero, tok, step, next-is}
-use Rattle.grammar.specs.Tree.{Tree, node, Trees, nil, _▸_, size, head-ref}
+use Rattle.grammar.specs.Tree.{Tree, node, Trees, nil, _▸_, size, head-ref, width}
 use Rattle.grammar.specs.Parsed.{Reader, _>>=_, _>>_, need, build, InvalidSyntax}
 use Rattle.grammar.specs.Expressions.{Rec, pair}
 use Rattle.answer.specs.declared.Read.{Read}
@@ -15,7 +15,7 @@ use Rattle.parser.specs.Meets.{Stands, Meets, one, many, Ending, Bounded
 
 -- Nothing: the reader has the whole part.
 abbrev pub Fresh : {A : Type 0} (slot : A → Trees) (reader : Reader A) (ts : List ℕ) (at first : ℕ) (r : Read) (xs ys : List ℕ) → Type 0
-Fresh slot reader ts at first r xs ys = Meets slot ts at (reader at (length xs / 8)) [] first r xs ys
+Fresh slot reader ts at first r xs ys = Meets slot ts at (reader at (length xs / width)) [] first r xs ys
 
 -- Slots in the first rows, which stay as they are.
 abbrev pub Behind : {A : Type 0} (slot : A → Trees) (reader : Reader A) (ts : List ℕ) (at first rows : ℕ) (r : Read) (xs ys : List ℕ) → Type 0

@@ -5,10 +5,11 @@ use mathlib.Core.Bool.{true}
 use mathlib.Core.List.{List, [], _∷_, _++_}
 use lib.ListN.{length, drop}
 use Rattle.grammar.specs.Words.{tok, valid, EOF}
-use Rattle.grammar.specs.Tree.{Tree, infixed, node, Trees, nil, _▸_, sizes, lays, head-ref}
+use Rattle.grammar.specs.Tree.{Tree, infixed, node, Trees, nil, _▸_, sizes, lays, head-ref, width}
 use Rattle.grammar.specs.Parsed.{Parsed, refused, read}
 use Rattle.answer.specs.declared.Read.{Read}
 use Rattle.answer.specs.declared.Read.the-variants as the
+use Rattle.grammar.specs.Script.{largest}
 
 -- An array that was checked: not too long, every word valid, EOF last.
 pub record Sound (ts : List ℕ) : Type 0 where
@@ -20,8 +21,8 @@ pub record Sound (ts : List ℕ) : Type 0 where
 pub record Ready (ts xs : List ℕ) (first at : ℕ) : Type 0 where
   pub sound : Sound ts
   pub within : at < length ts
-  pub whole : length xs ≡ 8 * (length xs / 8)
-  pub fits : 8 * first + length xs ≤ 524280
+  pub whole : length xs ≡ width * (length xs / width)
+  pub fits : width * first + length xs ≤ largest
 
 -- The words of slots one behind the other, from behind `first` rows on.
 abbrev pub lay-slots : List Trees → ℕ → List ℕ
@@ -35,15 +36,15 @@ after (a ∷ rest) first = after rest (first + sizes a)
 
 -- The first k rows of a part are p, and what comes behind is as it was.
 pub record Front (p : List ℕ) (k : ℕ) (xs ys : List ℕ) : Type 0 where
-  pub laid : ys ≡ p ++ drop (8 * k) xs
-  pub long : length p ≡ 8 * k
-  pub fit : 8 * k ≤ length xs
+  pub laid : ys ≡ p ++ drop (width * k) xs
+  pub long : length p ≡ width * k
+  pub fit : width * k ≤ length xs
 
 -- Slots were read from a place on into the first k rows of the part xs, which is now ys; `left` rows are left, and the cursor stands at `at`.
 pub record Stands (ts : List ℕ) (from : ℕ) (slots : List Trees) (first k left : ℕ) (xs ys : List ℕ) (at : ℕ) : Type 0 where
   pub front : Front (lay-slots slots first) k xs ys
   pub ends : first + k ≡ after slots first
-  pub spent : k + left ≡ length xs / 8
+  pub spent : k + left ≡ length xs / width
   pub on : from ≤ at
   pub within : at < length ts
 
@@ -108,7 +109,7 @@ pub record Ending (t : Tree) (kind mark place : ℕ) (slots : List Trees) (first
 
 -- The numbers of an answer fit: its rows are in the part, and its cursor is not before the place and in the array.
 abbrev pub BoundedCase : List ℕ → List ℕ → ℕ → Read → Type 0
-BoundedCase ts xs at (the.Tree k h d) = (8 * k ≤ length xs) × (at ≤ d) × (d < length ts)
+BoundedCase ts xs at (the.Tree k h d) = (width * k ≤ length xs) × (at ≤ d) × (d < length ts)
 BoundedCase ts xs at (the.Refused n p) = Unit {0}
 
 pub record Bounded (ts xs : List ℕ) (at : ℕ) (r : Read) : Type 0 where

@@ -3,7 +3,7 @@ use Prim.Native.Nat.{ℕ, _-_, _*_, _≤_}
 use mathlib.Core.Path.{_≡_}
 use mathlib.Core.List.{List, [], _∷_, _++_}
 use lib.ListN.{replicate}
-use Rattle.grammar.specs.Tree.{Trees, sizes, lay}
+use Rattle.grammar.specs.Tree.{Trees, sizes, lay, width}
 use Rattle.grammar.specs.Parsed.{Parsed, read}
 use Rattle.grammar.specs.Script.{one-expression, one-statement, whole-script, rows, answer}
 use Rattle.grammar.specs.Claims.{Grouping, Part, RowsRuled}
@@ -40,7 +40,7 @@ abbrev pub ChainsAnswered : Type 0
 ChainsAnswered =
     (ts : List ℕ) (deep s at used : ℕ) (parts : List Part) (g : Grouping ts deep s at used parts) (r : Answer) (words : ℕ) (ys : List ℕ) → used ≤ rows words
     → Entered (one-expression ts s (rows words)) r words ys
-    → (numbers r ≡ 0 ∷ used ∷ used ∷ at ∷ []) × (ys ≡ lay (g .tree) 0 0 ++ replicate (words - 8 * used) 0)
+    → (numbers r ≡ 0 ∷ used ∷ used ∷ at ∷ []) × (ys ≡ lay (g .tree) 0 0 ++ replicate (words - width * used) 0)
 
 -- Whatever an entry answers, every infix row in the pool that it leaves keeps the rule.
 abbrev pub RuleAnswered : Type 0

@@ -4,11 +4,12 @@ use super::part::first_of;
 use super::part::leaf;
 use super::part::put_row;
 use answer::Read;
+use rows::WIDTH;
 use tokens::Symbol;
 use words::Cursor;
 ghost use mathlib.Core.Path.{_≡_};
 ghost use Rattle.grammar.specs.Words.{Identifier, tok};
-ghost use Rattle.grammar.specs.Tree.{nil};
+ghost use Rattle.grammar.specs.Tree.{nil, width};
 ghost use Rattle.grammar.specs.Parsed.{turns};
 ghost use Rattle.grammar.specs.Expressions as spec;
 ghost use Rattle.parser.specs.Meets.{Ready, one, many};
@@ -51,7 +52,7 @@ pub fn dot_expression(tokens: &[u16], pool: &mut [u32], first: usize, c: Cursor)
     if !words::next_symbol_is(tokens, d, Symbol::SDot) {
         return r;
     }
-    let i = 8 * k;
+    let i = WIDTH * k;
     let q = dots(tokens, &mut pool[i..], first + k, d);
     let Read::Tree(j, g, e) = q else {
         return q;

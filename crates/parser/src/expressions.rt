@@ -8,6 +8,7 @@ use super::part::passed;
 use super::part::put_row;
 use answer::Read;
 use rows::Flag;
+use rows::WIDTH;
 use tokens::Keyword;
 use tokens::Symbol;
 use tokens::Token;
@@ -25,6 +26,7 @@ ghost use Rattle.rows.specs.Rows.{bit};
 ghost use Rattle.parser.specs.Meets.{Ready, one, many};
 ghost use Rattle.parser.specs.Contracts.{Fresh, Behind, Follows, Extends};
 ghost use Rattle.parser.specs.Contracts as contract;
+ghost use Rattle.grammar.specs.Tree.{width};
 
 // parse_expression, where `allow` more expressions and statements may be open.
 pub fn expression(
@@ -207,10 +209,10 @@ pub fn behind(
     paired: bool,
     less: usize,
 ) -> Read
-    requires { ⌜ (Ready (now tokens) (now pool) first c) × (8 * rows ≤ length (now pool)) ⌝ }
+    requires { ⌜ (Ready (now tokens) (now pool) first c) × (width * rows ≤ length (now pool)) ⌝ }
     ensures { λ r. ⌜ Behind one (contract.item (now (tokens .entry)) (spec.expression (now (tokens .entry)) less) order paired) (now (tokens .entry)) c first rows r (now (pool .entry)) (now (pool .exit)) ⌝ }
 {
-    let i = 8 * rows;
+    let i = WIDTH * rows;
     let r = item(tokens, &mut pool[i..], first + rows, c, order, paired, less);
     let Read::Tree(k, h, d) = r else {
         return r;
@@ -229,7 +231,7 @@ fn entries(
     paired: bool,
     less: usize,
 ) -> Read
-    requires { ⌜ (Ready (now tokens) (now pool) first c) × (8 * rows ≤ length (now pool)) ⌝ }
+    requires { ⌜ (Ready (now tokens) (now pool) first c) × (width * rows ≤ length (now pool)) ⌝ }
     ensures { λ r. ⌜ Extends (spec.entries (now (tokens .entry)) (spec.expression (now (tokens .entry)) less) (contract.item (now (tokens .entry)) (spec.expression (now (tokens .entry)) less) 0 paired) turns) (now (tokens .entry)) c first rows head r (now (pool .entry)) (now (pool .exit)) ⌝ }
 {
     let mut k = rows;
@@ -444,7 +446,7 @@ fn climb(
     order: usize,
     less: usize,
 ) -> Read
-    requires { ⌜ (Ready (now tokens) (now pool) first c) × (8 * rows ≤ length (now pool)) ⌝ }
+    requires { ⌜ (Ready (now tokens) (now pool) first c) × (width * rows ≤ length (now pool)) ⌝ }
     ensures { λ r. ⌜ Follows (spec.climb (now (tokens .entry)) (spec.expression (now (tokens .entry)) less) order turns) (now (tokens .entry)) c first rows head r (now (pool .entry)) (now (pool .exit)) ⌝ }
 {
     let mut k = rows;
@@ -473,7 +475,7 @@ fn operation(
     c: Cursor,
     less: usize,
 ) -> Read
-    requires { ⌜ (Ready (now tokens) (now pool) first c) × (8 * rows ≤ length (now pool)) × (operates (tok (now tokens) c) ≡ true) ⌝ }
+    requires { ⌜ (Ready (now tokens) (now pool) first c) × (width * rows ≤ length (now pool)) × (operates (tok (now tokens) c) ≡ true) ⌝ }
     ensures { λ r. ⌜ Follows (spec.operation (now (tokens .entry)) (spec.expression (now (tokens .entry)) less)) (now (tokens .entry)) c first rows head r (now (pool .entry)) (now (pool .exit)) ⌝ }
 {
     let t = words::current(tokens, c);
@@ -499,7 +501,7 @@ fn infix_exp(
     c: Cursor,
     less: usize,
 ) -> Read
-    requires { ⌜ (Ready (now tokens) (now pool) first c) × (8 * rows ≤ length (now pool)) ⌝ }
+    requires { ⌜ (Ready (now tokens) (now pool) first c) × (width * rows ≤ length (now pool)) ⌝ }
     ensures { λ r. ⌜ Follows (spec.infix-expression (now (tokens .entry)) (spec.expression (now (tokens .entry)) less)) (now (tokens .entry)) c first rows head r (now (pool .entry)) (now (pool .exit)) ⌝ }
 {
     let t = words::current(tokens, c);
@@ -541,10 +543,10 @@ fn list_behind(
     c: Cursor,
     less: usize,
 ) -> Read
-    requires { ⌜ (Ready (now tokens) (now pool) first c) × (8 * rows ≤ length (now pool)) ⌝ }
+    requires { ⌜ (Ready (now tokens) (now pool) first c) × (width * rows ≤ length (now pool)) ⌝ }
     ensures { λ r. ⌜ Behind many (spec.list-expr (now (tokens .entry)) (spec.expression (now (tokens .entry)) less)) (now (tokens .entry)) c first rows r (now (pool .entry)) (now (pool .exit)) ⌝ }
 {
-    let i = 8 * rows;
+    let i = WIDTH * rows;
     let r = list_expr(tokens, &mut pool[i..], first + rows, c, less);
     let Read::Tree(k, h, d) = r else {
         return r;
@@ -562,7 +564,7 @@ fn call(
     c: Cursor,
     less: usize,
 ) -> Read
-    requires { ⌜ (Ready (now tokens) (now pool) first c) × (8 * rows ≤ length (now pool)) ⌝ }
+    requires { ⌜ (Ready (now tokens) (now pool) first c) × (width * rows ≤ length (now pool)) ⌝ }
     ensures { λ r. ⌜ Follows (spec.call (now (tokens .entry)) (spec.expression (now (tokens .entry)) less)) (now (tokens .entry)) c first rows head r (now (pool .entry)) (now (pool .exit)) ⌝ }
 {
     if words::next_symbol_is(tokens, c, Symbol::SRparen) {
@@ -587,7 +589,7 @@ fn index(
     c: Cursor,
     less: usize,
 ) -> Read
-    requires { ⌜ (Ready (now tokens) (now pool) first c) × (8 * rows ≤ length (now pool)) ⌝ }
+    requires { ⌜ (Ready (now tokens) (now pool) first c) × (width * rows ≤ length (now pool)) ⌝ }
     ensures { λ r. ⌜ Follows (spec.index (now (tokens .entry)) (spec.expression (now (tokens .entry)) less)) (now (tokens .entry)) c first rows head r (now (pool .entry)) (now (pool .exit)) ⌝ }
 {
     let r = behind(

@@ -17,6 +17,8 @@ ghost use Rattle.tokens.specs.declared.Token.the-variants as token;
 ghost use Rattle.parser.specs.Meets.{Ready, one};
 ghost use Rattle.parser.specs.Contracts.{Fresh, Ends};
 ghost use Rattle.parser.specs.Contracts as contract;
+ghost use Rattle.grammar.specs.Tree.{width};
+ghost use Rattle.grammar.specs.Script.{largest};
 
 // A row behind the first `rows` rows of a part, before which the pool has `first` rows.
 pub fn put_row(
@@ -32,7 +34,7 @@ pub fn put_row(
     c2: u32,
     c3: u32,
 ) -> Read
-    requires { ⌜ (8 * first + length (now pool) ≤ 524280) × (place < 65536) ⌝ }
+    requires { ⌜ (width * first + length (now pool) ≤ largest) × (place < 65536) ⌝ }
     ensures { λ r. ⌜ ((ts : List ℕ) → c < length ts → Ends build ts c first rows kind mark place c0 c1 c2 c3 r (now (pool .entry)) (now (pool .exit))) ⌝ }
 {
     let row = Row {
@@ -53,7 +55,7 @@ pub fn put_row(
 
 // A row without children, at the current token.
 pub fn leaf(pool: &mut [u32], first: usize, c: Cursor, kind: u32, mark: u32) -> Read
-    requires { ⌜ (8 * first + length (now pool) ≤ 524280) × (c < 65536) ⌝ }
+    requires { ⌜ (width * first + length (now pool) ≤ largest) × (c < 65536) ⌝ }
     ensures { λ r. ⌜ ((ts : List ℕ) → c < length ts → Fresh one (λ at. build (tree.leaf kind mark at) at) ts c first r (now (pool .entry)) (now (pool .exit))) ⌝ }
 {
     put_row(pool, first, 0, c, kind, mark, c, 0, 0, 0, 0)

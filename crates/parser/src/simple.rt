@@ -13,7 +13,7 @@ ghost use mathlib.Core.Path.{_≡_};
 ghost use Prim.Native.Nat.{ℕ, _*_, _≤_, _<_};
 ghost use lib.ListN.{length};
 ghost use Rattle.grammar.specs.Words.{SSemiColon, step};
-ghost use Rattle.grammar.specs.Tree.{leaf, node, nil};
+ghost use Rattle.grammar.specs.Tree.{leaf, node, nil, width};
 ghost use Rattle.grammar.specs.Parsed.{turns};
 ghost use Rattle.grammar.specs.Expressions.{expression};
 ghost use Rattle.grammar.specs.Statements as spec;
@@ -61,7 +61,7 @@ pub fn behind_sign(
     number: u32,
     less: usize,
 ) -> Read
-    requires { ⌜ (Ready (now tokens) (now pool) first c) × (8 * rows ≤ length (now pool)) ⌝ }
+    requires { ⌜ (Ready (now tokens) (now pool) first c) × (width * rows ≤ length (now pool)) ⌝ }
     ensures { λ r. ⌜ Behind one (contract.behind-sign (now (tokens .entry)) (expression (now (tokens .entry)) less) (word sign) number) (now (tokens .entry)) c first rows r (now (pool .entry)) (now (pool .exit)) ⌝ }
 {
     if !words::next_is(tokens, c, sign) {

@@ -13,6 +13,7 @@ use super::simple::const_statement;
 use super::simple::return_statement;
 use super::simple::var_statement;
 use answer::Read;
+use rows::WIDTH;
 use tokens::Keyword;
 use tokens::Symbol;
 use tokens::Token;
@@ -21,7 +22,7 @@ ghost use mathlib.Core.Path.{_≡_};
 ghost use Prim.Native.Nat.{ℕ, _*_, _≤_, _<_};
 ghost use lib.ListN.{length};
 ghost use Rattle.grammar.specs.Words.{tok, step};
-ghost use Rattle.grammar.specs.Tree.{node, nil};
+ghost use Rattle.grammar.specs.Tree.{node, nil, width};
 ghost use Rattle.grammar.specs.Parsed.{turns};
 ghost use Rattle.grammar.specs.Expressions.{expression};
 ghost use Rattle.grammar.specs.Statements as spec;
@@ -114,7 +115,7 @@ pub fn statements(
     close: Token,
     allow: usize,
 ) -> Read
-    requires { ⌜ (Ready (now tokens) (now pool) first c) × (8 * rows ≤ length (now pool)) ⌝ }
+    requires { ⌜ (Ready (now tokens) (now pool) first c) × (width * rows ≤ length (now pool)) ⌝ }
     ensures { λ r. ⌜ Extends (spec.statements (now (tokens .entry)) (expression (now (tokens .entry)) allow) (spec.statement (now (tokens .entry)) allow) (word close) turns) (now (tokens .entry)) c first rows head r (now (pool .entry)) (now (pool .exit)) ⌝ }
 {
     let mut k = rows;
@@ -146,10 +147,10 @@ fn one_behind(
     c: Cursor,
     allow: usize,
 ) -> Read
-    requires { ⌜ (Ready (now tokens) (now pool) first c) × (8 * rows ≤ length (now pool)) ⌝ }
+    requires { ⌜ (Ready (now tokens) (now pool) first c) × (width * rows ≤ length (now pool)) ⌝ }
     ensures { λ r. ⌜ (Begun (now (tokens .entry)) c r) × (Behind many (spec.statement (now (tokens .entry)) allow) (now (tokens .entry)) c first rows r (now (pool .entry)) (now (pool .exit))) ⌝ }
 {
-    let i = 8 * rows;
+    let i = WIDTH * rows;
     let r = statement(tokens, &mut pool[i..], first + rows, c, allow);
     let Read::Tree(k, h, d) = r else {
         return r;
@@ -189,10 +190,10 @@ fn block_behind(
     c: Cursor,
     less: usize,
 ) -> Read
-    requires { ⌜ (Ready (now tokens) (now pool) first c) × (8 * rows ≤ length (now pool)) ⌝ }
+    requires { ⌜ (Ready (now tokens) (now pool) first c) × (width * rows ≤ length (now pool)) ⌝ }
     ensures { λ r. ⌜ Behind one (spec.block (now (tokens .entry)) (expression (now (tokens .entry)) less) (spec.statement (now (tokens .entry)) less)) (now (tokens .entry)) c first rows r (now (pool .entry)) (now (pool .exit)) ⌝ }
 {
-    let i = 8 * rows;
+    let i = WIDTH * rows;
     let r = block(tokens, &mut pool[i..], first + rows, c, less);
     let Read::Tree(k, h, d) = r else {
         return r;
@@ -212,7 +213,7 @@ fn body(
     bare: u32,
     less: usize,
 ) -> Read
-    requires { ⌜ (Ready (now tokens) (now pool) first c) × (8 * rows ≤ length (now pool)) ⌝ }
+    requires { ⌜ (Ready (now tokens) (now pool) first c) × (width * rows ≤ length (now pool)) ⌝ }
     ensures { λ r. ⌜ Behind one (contract.body (now (tokens .entry)) (spec.block (now (tokens .entry)) (expression (now (tokens .entry)) less) (spec.statement (now (tokens .entry)) less)) (word (token.Operator sign)) missing bare) (now (tokens .entry)) c first rows r (now (pool .entry)) (now (pool .exit)) ⌝ }
 {
     if !words::next_symbol_is(tokens, c, sign) {
@@ -302,7 +303,7 @@ fn else_block(
     c: Cursor,
     less: usize,
 ) -> Read
-    requires { ⌜ (Ready (now tokens) (now pool) first c) × (8 * rows ≤ length (now pool)) ⌝ }
+    requires { ⌜ (Ready (now tokens) (now pool) first c) × (width * rows ≤ length (now pool)) ⌝ }
     ensures { λ r. ⌜ Behind many (spec.else (now (tokens .entry)) (expression (now (tokens .entry)) less) (spec.statement (now (tokens .entry)) less)) (now (tokens .entry)) c first rows r (now (pool .entry)) (now (pool .exit)) ⌝ }
 {
     if !words::next_keyword_is(tokens, c, Keyword::KElse) {
@@ -345,7 +346,7 @@ fn open_body(
     sign: Symbol,
     less: usize,
 ) -> Read
-    requires { ⌜ (Ready (now tokens) (now pool) first c) × (8 * rows ≤ length (now pool)) ⌝ }
+    requires { ⌜ (Ready (now tokens) (now pool) first c) × (width * rows ≤ length (now pool)) ⌝ }
     ensures { λ r. ⌜ Behind one (contract.open-body (now (tokens .entry)) (spec.block (now (tokens .entry)) (expression (now (tokens .entry)) less) (spec.statement (now (tokens .entry)) less)) (word (token.Operator sign))) (now (tokens .entry)) c first rows r (now (pool .entry)) (now (pool .exit)) ⌝ }
 {
     if !words::next_symbol_is(tokens, c, sign) {
@@ -420,7 +421,7 @@ fn finally_block(
     c: Cursor,
     less: usize,
 ) -> Read
-    requires { ⌜ (Ready (now tokens) (now pool) first c) × (8 * rows ≤ length (now pool)) ⌝ }
+    requires { ⌜ (Ready (now tokens) (now pool) first c) × (width * rows ≤ length (now pool)) ⌝ }
     ensures { λ r. ⌜ Behind many (spec.finally (now (tokens .entry)) (expression (now (tokens .entry)) less) (spec.statement (now (tokens .entry)) less)) (now (tokens .entry)) c first rows r (now (pool .entry)) (now (pool .exit)) ⌝ }
 {
     if !words::next_keyword_is(tokens, c, Keyword::KFinally) {
@@ -438,7 +439,7 @@ fn catch_block(
     c: Cursor,
     less: usize,
 ) -> Read
-    requires { ⌜ (Ready (now tokens) (now pool) first c) × (8 * rows ≤ length (now pool)) ⌝ }
+    requires { ⌜ (Ready (now tokens) (now pool) first c) × (width * rows ≤ length (now pool)) ⌝ }
     ensures { λ r. ⌜ Behind one (contract.braced (now (tokens .entry)) (spec.block (now (tokens .entry)) (expression (now (tokens .entry)) less) (spec.statement (now (tokens .entry)) less))) (now (tokens .entry)) c first rows r (now (pool .entry)) (now (pool .exit)) ⌝ }
 {
     if !words::next_symbol_is(tokens, c, Symbol::SLBrace) {

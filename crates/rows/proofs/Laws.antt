@@ -10,9 +10,9 @@ use lib.Dec.{ltb, leb}
 use lib.ListN.{length, set, getD, length-append, List·getD-append}
 use lib.Seq.{set-append-left, getD-append-add}
 use borrow.Author.Tests.{lt-ltb, le-ltb, le-leb, ltb-true, ltb-false, leb-true}
-use Rattle.grammar.specs.Tree.{row, flag}
+use Rattle.grammar.specs.Tree.{width, row, flag}
 use Rattle.grammar.specs.Parsed.{NoRow}
-use Rattle.rows.specs.Rows.{width, kind-word, mark-word, next-word, placed, built, Builds, is-row, at, linked, marked, kind-of, bit}
+use Rattle.rows.specs.Rows.{kind-word, mark-word, next-word, placed, built, Builds, is-row, at, linked, marked, kind-of, bit}
 use Rattle.rows.specs.declared.Built.{Built}
 use Rattle.rows.specs.declared.Built.the-variants.{Rows, Refused}
 use Rattle.rows.specs.declared.Flag.{Flag}

@@ -6,7 +6,8 @@ use mathlib.Core.List.{List, _++_, append-nil}
 use lib.ListN.{length, take, drop, length-drop, drop-of-length-le}
 use lib.Seq.{take-all, drop-drop}
 use borrow.Rule.Slice.PartMut.{putMid}
-use Rattle.rows.specs.Rows.{width, placed}
+use Rattle.grammar.specs.Tree.{width}
+use Rattle.rows.specs.Rows.{placed}
 
 -- words that were written at the front of the part stand behind the first rows
 pub given-back : (xs : List ℕ) (rows : ℕ) (ws zs : List ℕ) → width * rows ≤ length xs

@@ -5,17 +5,13 @@ use mathlib.Core.Bool.{Bool, _&&_, cond}
 use mathlib.Core.List.{List, _++_}
 use lib.Dec.{leb, ltb}
 use lib.ListN.{length, take, drop, set, getD}
-use Rattle.grammar.specs.Tree.{row, flag, Thread, Async, Grouped}
+use Rattle.grammar.specs.Tree.{width, row, flag, Thread, Async, Grouped}
 use Rattle.grammar.specs.Parsed.{NoRow}
 use Rattle.rows.specs.declared.Row.{Row}
 use Rattle.rows.specs.declared.Built.{Built}
 use Rattle.rows.specs.declared.Built.the-variants as answer
 use Rattle.rows.specs.declared.Flag.{Flag}
 use Rattle.rows.specs.declared.Flag.the-variants as a
-
--- How many words a row takes.
-abbrev pub width : ℕ
-width = 8
 
 -- Where in its row the kind stands.
 abbrev pub kind-word : ℕ

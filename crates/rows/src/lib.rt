@@ -3,11 +3,11 @@ ghost use mathlib.Core.Path.{_≡_};
 ghost use mathlib.Core.List.{_++_};
 ghost use Prim.Native.Nat.{_≤_};
 ghost use lib.ListN.{length, drop, replicate};
-ghost use Rattle.grammar.specs.Tree.{flag};
-ghost use Rattle.rows.specs.Rows.{width, words, Builds, is-row, linked, marked, bit, kind-of};
+ghost use Rattle.grammar.specs.Tree.{width, flag};
+ghost use Rattle.rows.specs.Rows.{words, Builds, is-row, linked, marked, bit, kind-of};
 
 // How many words a row takes.
-const WIDTH: usize = 8;
+pub const WIDTH: usize = 8;
 
 // Where in its row each word stands that is read or changed later.
 const KIND: usize = 0;

@@ -11,6 +11,7 @@ use Rattle.parser.proofs.Wholes.{begins, passed, denied, few-words, len
 use borrow.Author.Needs.{needs}
 use Rattle.parser.proofs.enter.Statement.{statement}
 use Rattle.parser.proofs.enter.Tie as tie
+use Rattle.grammar.specs.Tree.{width}
 
 clear-requires : tie.Need-clear-requires
 clear-requires c κs = search needs
@@ -31,10 +32,10 @@ part-read-start : tie.Need-part-read-start
 part-read-start c = omega arith
 
 part-read-end : tie.Need-part-read-end
-part-read-end c = omega (arith, c .room .ensures ∙ ap (λ (i : ℕ). 8 * rows i) (c .before .before .before .before .before .before .before .clear .kept .0), few-words (length (c .before .before .before .before .before .before .before .before .before .before .before .args .pool .now)), c .before .before .before .before .before .before .before .clear .kept .0)
+part-read-end c = omega (arith, c .room .ensures ∙ ap (λ (i : ℕ). width * rows i) (c .before .before .before .before .before .before .before .clear .kept .0), few-words (length (c .before .before .before .before .before .before .before .before .before .before .before .args .pool .now)), c .before .before .before .before .before .before .before .clear .kept .0)
 
 read-requires : tie.Need-read-requires
-read-requires c κs = let b = begins (c .before .before .before .before .before .before .before .before .before .before .before .before .args .tokens .now) (c .before .before .before .before .before .before .before .before .before .before .before .before .args .start) (sym (c .before .before .before .before .before .check .ensures) ∙ c .before .before .before .s .given .1) in ready-whole (length (c .before .before .before .before .before .before .before .before .before .before .before .before .args .pool .now)) (b .0 .good) (rw (b .1) (b .0 .within)) (ap length (lent-zeros (c .before .room .result) (length (c .before .before .before .before .before .before .before .before .before .before .before .before .args .pool .now)) (c .before .before .before .before .before .before .before .before .clear .ensures) (omega (arith, c .before .room .ensures ∙ ap (λ (i : ℕ). 8 * rows i) (c .before .before .before .before .before .before .before .before .clear .kept .0), few-words (length (c .before .before .before .before .before .before .before .before .before .before .before .before .args .pool .now)))) ∙ ap (λ (i : ℕ). replicate {A = ℕ} i 0) (c .before .room .ensures ∙ ap (λ (i : ℕ). 8 * rows i) (c .before .before .before .before .before .before .before .before .clear .kept .0))) ∙ length-replicate (8 * rows (length (c .before .before .before .before .before .before .before .before .before .before .before .before .args .pool .now))) 0)
+read-requires c κs = let b = begins (c .before .before .before .before .before .before .before .before .before .before .before .before .args .tokens .now) (c .before .before .before .before .before .before .before .before .before .before .before .before .args .start) (sym (c .before .before .before .before .before .check .ensures) ∙ c .before .before .before .s .given .1) in ready-whole (length (c .before .before .before .before .before .before .before .before .before .before .before .before .args .pool .now)) (b .0 .good) (rw (b .1) (b .0 .within)) (ap length (lent-zeros (c .before .room .result) (length (c .before .before .before .before .before .before .before .before .before .before .before .before .args .pool .now)) (c .before .before .before .before .before .before .before .before .clear .ensures) (omega (arith, c .before .room .ensures ∙ ap (λ (i : ℕ). width * rows i) (c .before .before .before .before .before .before .before .before .clear .kept .0), few-words (length (c .before .before .before .before .before .before .before .before .before .before .before .before .args .pool .now)))) ∙ ap (λ (i : ℕ). replicate {A = ℕ} i 0) (c .before .room .ensures ∙ ap (λ (i : ℕ). width * rows i) (c .before .before .before .before .before .before .before .before .clear .kept .0))) ∙ length-replicate (width * rows (length (c .before .before .before .before .before .before .before .before .before .before .before .before .args .pool .now))) 0)
 
 finish-requires : tie.Need-finish-requires
 finish-requires c κs = search needs
@@ -49,8 +50,8 @@ returns : tie.Need-returns
 unfolding enters
 returns c =
     let b = begins (c .before .before .before .before .before .before .before .before .before .before .before .before .before .before .before .before .before .before .before .args .tokens .now) (c .before .before .before .before .before .before .before .before .before .before .before .before .before .before .before .before .before .before .before .args .start) (sym (c .before .before .before .before .before .before .before .before .before .before .before .before .check .ensures) ∙ c .before .before .before .before .before .before .before .before .before .before .s .given .1) in
-    finished (length (c .before .before .before .before .before .before .before .before .before .before .before .before .before .before .before .before .before .before .before .args .pool .now)) (c .before .before .before .before .before .before .before .before .room .result) (c .before .before .before .before .before .before .before .before .before .before .before .before .before .before .before .clear .ensures) (c .before .before .before .before .before .before .before .before .room .ensures ∙ ap (λ (i : ℕ). 8 * rows i) (c .before .before .before .before .before .before .before .before .before .before .before .before .before .before .before .clear .kept .0)) (alone-by (passed _ (b .0)) (reads-alone _ _ _ _)) (c .before .before .before .before .before .before .read .kept .1 .0)
-    (by-eq (passed _ (b .0)) (rw (b .1, all-rows (length (c .before .before .before .before .before .before .before .before .before .before .before .before .before .before .before .before .before .before .before .args .pool .now)) (lent-zeros (c .before .before .before .before .before .before .before .before .room .result) (length (c .before .before .before .before .before .before .before .before .before .before .before .before .before .before .before .before .before .before .before .args .pool .now)) (c .before .before .before .before .before .before .before .before .before .before .before .before .before .before .before .clear .ensures) (omega (arith, c .before .before .before .before .before .before .before .before .room .ensures ∙ ap (λ (i : ℕ). 8 * rows i) (c .before .before .before .before .before .before .before .before .before .before .before .before .before .before .before .clear .kept .0), few-words (length (c .before .before .before .before .before .before .before .before .before .before .before .before .before .before .before .before .before .before .before .args .pool .now)))) ∙ ap (λ (i : ℕ). replicate {A = ℕ} i 0) (c .before .before .before .before .before .before .before .before .room .ensures ∙ ap (λ (i : ℕ). 8 * rows i) (c .before .before .before .before .before .before .before .before .before .before .before .before .before .before .before .clear .kept .0)))) at (c .before .before .before .before .before .before .read .ensures))) (c .before .before .finish .ensures .0) (c .before .before .finish .ensures .1)
+    finished (length (c .before .before .before .before .before .before .before .before .before .before .before .before .before .before .before .before .before .before .before .args .pool .now)) (c .before .before .before .before .before .before .before .before .room .result) (c .before .before .before .before .before .before .before .before .before .before .before .before .before .before .before .clear .ensures) (c .before .before .before .before .before .before .before .before .room .ensures ∙ ap (λ (i : ℕ). width * rows i) (c .before .before .before .before .before .before .before .before .before .before .before .before .before .before .before .clear .kept .0)) (alone-by (passed _ (b .0)) (reads-alone _ _ _ _)) (c .before .before .before .before .before .before .read .kept .1 .0)
+    (by-eq (passed _ (b .0)) (rw (b .1, all-rows (length (c .before .before .before .before .before .before .before .before .before .before .before .before .before .before .before .before .before .before .before .args .pool .now)) (lent-zeros (c .before .before .before .before .before .before .before .before .room .result) (length (c .before .before .before .before .before .before .before .before .before .before .before .before .before .before .before .before .before .before .before .args .pool .now)) (c .before .before .before .before .before .before .before .before .before .before .before .before .before .before .before .clear .ensures) (omega (arith, c .before .before .before .before .before .before .before .before .room .ensures ∙ ap (λ (i : ℕ). width * rows i) (c .before .before .before .before .before .before .before .before .before .before .before .before .before .before .before .clear .kept .0), few-words (length (c .before .before .before .before .before .before .before .before .before .before .before .before .before .before .before .before .before .before .before .args .pool .now)))) ∙ ap (λ (i : ℕ). replicate {A = ℕ} i 0) (c .before .before .before .before .before .before .before .before .room .ensures ∙ ap (λ (i : ℕ). width * rows i) (c .before .before .before .before .before .before .before .before .before .before .before .before .before .before .before .clear .kept .0)))) at (c .before .before .before .before .before .before .read .ensures))) (c .before .before .finish .ensures .0) (c .before .before .finish .ensures .1)
 
 same-length-2 : tie.Need-same-length-2
 same-length-2 c = c .before .before .before .before .before .before .clear .kept .0

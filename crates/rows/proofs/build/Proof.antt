@@ -5,7 +5,8 @@ use mathlib.Core.Path.{sym, ap, _∙_}
 use mathlib.Core.List.{List}
 use native.Mathlib.Omega.{arith}
 use lib.ListN.{length}
-use Rattle.rows.specs.Rows.{width, words}
+use Rattle.grammar.specs.Tree.{width}
+use Rattle.rows.specs.Rows.{words}
 use Rattle.rows.specs.declared.Built.the-variants.{Rows}
 use Rattle.rows.proofs.Laws.{free, none-free, built-fits, built-full}
 use Rattle.rows.proofs.Parts.{given-back}

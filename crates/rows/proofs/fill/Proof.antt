@@ -5,7 +5,8 @@ use native.Mathlib.Nat.{lt-of-lt-of-le}
 use native.Mathlib.Bridge.{le-by-compare, IsLe}
 use lib.ListN.{length}
 use lib.Seq.{sets, sets-eq, length-sets, lt-length-sets}
-use Rattle.rows.specs.Rows.{width, words}
+use Rattle.grammar.specs.Tree.{width}
+use Rattle.rows.specs.Rows.{words}
 use Rattle.rows.proofs.fill.Statement.{statement}
 use Rattle.rows.proofs.fill.Tie as tie
 

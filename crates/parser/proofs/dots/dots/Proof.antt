@@ -6,7 +6,7 @@ use native.Mathlib.Omega.{arith}
 use lib.ListN.{length}
 use borrow.Author.Tests.{not-true, not-false}
 use Rattle.grammar.specs.Words.{SDot, step}
-use Rattle.grammar.specs.Tree.{nil}
+use Rattle.grammar.specs.Tree.{nil, width}
 use Rattle.grammar.specs.Expressions.{dots, get-identifier}
 use Rattle.parser.specs.Meets.{many, of-node}
 use Rattle.parser.proofs.Answers.{bounds, no-list, taken, TakenOf, pass, by-eq, refuses, need-met, need-failed, choose-true, choose-false, then-read, then-refused, then-eq}
@@ -18,7 +18,7 @@ use Rattle.parser.proofs.dots.dots.Tie as tie
 
 pub record Inv (ts pool₀ : List ℕ) (first k₀ head₀ : ℕ) (d₀ : ℕ) (pool : List ℕ) (k head : ℕ) (d : ℕ) : Type 0 where
   pub same : length pool ≡ length pool₀
-  pub state : Turning many (dots ts) ts d₀ nil d₀ (length pool₀ / 8) first k head pool₀ pool d
+  pub state : Turning many (dots ts) ts d₀ nil d₀ (length pool₀ / width) first k head pool₀ pool d
 
 abbrev Inv-loop : tie.InvT-loop
 Inv-loop tokens pool₀ first c k₀ head₀ d₀ pool k head d = Inv tokens pool₀ first k₀ head₀ d₀ pool k head d

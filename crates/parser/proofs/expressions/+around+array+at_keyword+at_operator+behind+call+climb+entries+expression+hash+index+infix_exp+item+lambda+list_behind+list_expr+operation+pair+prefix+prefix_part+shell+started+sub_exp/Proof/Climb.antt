@@ -6,7 +6,7 @@ use Prim.Native.Nat.{ℕ, _+_, _*_, _-_, _≤_, _<_}
 use native.Mathlib.Omega.{arith}
 use lib.ListN.{length}
 use Rattle.grammar.specs.Words.{goes-on, step}
-use Rattle.grammar.specs.Tree.{Tree, nil, _▸_, size}
+use Rattle.grammar.specs.Tree.{Tree, nil, _▸_, size, width}
 use Rattle.grammar.specs.Expressions.{expression, climb}
 use Rattle.tokens.specs.Tokens.{word}
 use Rattle.tokens.proofs.Round.{word-token}
@@ -27,7 +27,7 @@ use Rattle.parser.proofs.expressions.+around+array+at_keyword+at_operat
 -- What holds at each turn: the numbers fit, and from any tree in the first rows the definition's loop has come as far.
 pub record Inv (ts pool₀ : List ℕ) (first order less k₀ h₀ : ℕ) (d₀ : ℕ) (pool : List ℕ) (k h : ℕ) (d : ℕ) : Type 0 where
   pub same : length pool ≡ length pool₀
-  pub fit : 8 * k ≤ length pool
+  pub fit : width * k ≤ length pool
   pub on : d₀ ≤ d
   pub within : d < length ts
   pub state : (from : ℕ) (t : Tree) (zs : List ℕ) (left : ℕ) → Stands ts from ((t ▸ nil) ∷ []) first k₀ left zs pool₀ d₀ → h₀ ≡ first + size t

@@ -7,7 +7,7 @@ use Prim.Native.Nat.{ℕ, _*_, _-_, _≤_, _<_}
 use native.Mathlib.Omega.{arith}
 use lib.ListN.{length}
 use Rattle.grammar.specs.Words.{SComma}
-use Rattle.grammar.specs.Tree.{Trees, head-ref}
+use Rattle.grammar.specs.Tree.{Trees, head-ref, width}
 use Rattle.grammar.specs.Expressions.{expression, entries}
 use Rattle.parser.specs.Contracts.{item}
 use Rattle.parser.specs.Meets.{Stands, many}
@@ -27,7 +27,7 @@ use Rattle.parser.proofs.expressions.+around+array+at_keyword+at_operat
 -- What holds at each turn: the numbers fit, and from any list in the first rows the definition's loop has come as far.
 pub record Inv (ts pool₀ : List ℕ) (first : ℕ) (paired : Bool) (less k₀ h₀ : ℕ) (d₀ : ℕ) (pool : List ℕ) (k h : ℕ) (d : ℕ) : Type 0 where
   pub same : length pool ≡ length pool₀
-  pub fit : 8 * k ≤ length pool
+  pub fit : width * k ≤ length pool
   pub on : d₀ ≤ d
   pub within : d < length ts
   pub state : (from : ℕ) (us : Trees) (zs : List ℕ) (left : ℕ) → Stands ts from (us ∷ []) first k₀ left zs pool₀ d₀ → h₀ ≡ head-ref us first

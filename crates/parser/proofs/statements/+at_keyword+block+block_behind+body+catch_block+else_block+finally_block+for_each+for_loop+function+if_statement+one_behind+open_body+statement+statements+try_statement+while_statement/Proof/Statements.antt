@@ -7,7 +7,7 @@ use native.Mathlib.Omega.{arith}
 use lib.ListN.{length}
 use borrow.Author.Tests.{not-true, not-false}
 use Rattle.grammar.specs.Words.{SSemiColon}
-use Rattle.grammar.specs.Tree.{Trees, head-ref}
+use Rattle.grammar.specs.Tree.{Trees, head-ref, width}
 use Rattle.grammar.specs.Expressions.{expression}
 use Rattle.grammar.specs.Statements.{statement, statements}
 use Rattle.tokens.specs.Tokens.{word}
@@ -31,7 +31,7 @@ use Rattle.parser.proofs.statements.+at_keyword+block+block_behind+body
 -- What holds at each turn: the numbers fit, and from any list in the first rows the definition's loop has come as far.
 pub record Inv (ts pool₀ : List ℕ) (first : ℕ) (close : Token) (allow k₀ h₀ : ℕ) (d₀ : ℕ) (pool : List ℕ) (k h : ℕ) (d : ℕ) : Type 0 where
   pub same : length pool ≡ length pool₀
-  pub fit : 8 * k ≤ length pool
+  pub fit : width * k ≤ length pool
   pub on : d₀ ≤ d
   pub within : d < length ts
   pub state : (from : ℕ) (us : Trees) (zs : List ℕ) (left : ℕ) → Stands ts from (us ∷ []) first k₀ left zs pool₀ d₀ → h₀ ≡ head-ref us first
