@@ -1,22 +1,13 @@
 // What readers and entries answer, and what an entry does before and after reading.
-use rows::WIDTH;
 use words::Checked;
 use words::Cursor;
 ghost use mathlib.Core.Path.{_≡_};
-ghost use Prim.Native.Nat.{_*_};
-ghost use Rattle.grammar.specs.Script.{rows};
 ghost use Rattle.answer.specs.Answer.{checks, start-of, ended, ended-pool};
-ghost use Rattle.grammar.specs.Tree.{width};
 
 // The refusals of an array and of a start place.
 const BAD_ARRAY: u32 = 1;
 
 const BAD_START: u32 = 4;
-
-// The most rows of a pool, and the words that they take.
-const MOST_ROWS: usize = 65535;
-
-const LARGEST: usize = WIDTH * MOST_ROWS;
 
 // How many rows of its part a reader has filled, the reference of what it read (of a list its first, 0 for none) and the next cursor;
 // or a refusal, by its number and place.
@@ -51,17 +42,6 @@ pub fn check(tokens: &[u16], start: usize) -> Start
                 Start::At(start)
             }
         }
-    }
-}
-
-// How many words of a pool are used.
-pub fn room(length: usize) -> usize
-    ensures { λ r. ⌜ r ≡ width * rows length ⌝ }
-{
-    if LARGEST < length {
-        LARGEST
-    } else {
-        WIDTH * (length / WIDTH)
     }
 }
 

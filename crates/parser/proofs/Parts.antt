@@ -34,8 +34,9 @@ back-is k ys zs le =
     let e : drop (length ys - width * k) (drop (width * k) ys) ≡ [] = drop-of-length-le (drop (width * k) ys) {i = length ys - width * k} (simp length-drop (omega arith)) in
     ap (λ (w : List ℕ). take (width * k) ys ++ (zs ++ w)) e ∙ ap (λ (w : List ℕ). take (width * k) ys ++ w) (append-nil zs)
 
-pub back-same : (k : ℕ) (ys zs : List ℕ) → length zs ≡ length (part k ys) → length (back k ys zs) ≡ length ys
-back-same k ys zs e = same-len-mid (width * k) (length ys - width * k) ys zs e
+-- A part from any word on goes back as long as it was.
+pub back-same : (i : ℕ) (ys zs : List ℕ) → length zs ≡ length (take (length ys - i) (drop i ys)) → length (putMid i (length ys - i) ys zs) ≡ length ys
+back-same i ys zs e = same-len-mid i (length ys - i) ys zs e
 
 -- Rows behind rows.
 front-part : {p q : List ℕ} {k j : ℕ} {xs ys zs : List ℕ} → Front p k xs ys → Front q j (part k ys) zs → Front (p ++ q) (k + j) xs (back k ys zs)

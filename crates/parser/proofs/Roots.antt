@@ -7,7 +7,7 @@ use native.Mathlib.Nat.{add-zero}
 use lib.Dec.{eqb}
 use lib.ListN.{length, drop, length-append}
 use Rattle.grammar.specs.Tree.{Tree, infixed, node, Trees, nil, _▸_, size, sizes, head-ref, row, lay, lays, join, flag, flagged, is-call, width}
-use Rattle.rows.specs.Rows.{marked, linked, kind-of, bit, is-row}
+use Rattle.rows.specs.Rows.{marked, linked, read, bit, is-row, kind-word}
 use Rattle.rows.specs.declared.Flag.{Flag}
 use Rattle.rows.proofs.Laws.{marked-there, linked-there, kind-there}
 use Rattle.parser.specs.Meets.{Stands, lay-slots}
@@ -95,11 +95,11 @@ module _ {ts : List ℕ} {from : ℕ} {first k left : ℕ} {xs ys : List ℕ} {a
   ref = omega (arith, rows, some-rows t)
 
   -- the kind of the last row tells a call
-  pub is-called : is-call t ≡ eqb (kind-of ys k) 11
+  pub is-called : is-call t ≡ eqb (read ys k kind-word) 11
   is-called =
       let w = last-of t first in
       called t first
-      ∙ ap (λ (n : ℕ). eqb n 11) (sym (ap (λ (l : List ℕ). kind-of l k) as-laid ∙ ap (kind-of (body-of t first ++ (words w (mark-of t) 0 ++ rest))) ref
+      ∙ ap (λ (n : ℕ). eqb n 11) (sym (ap (λ (l : List ℕ). read l k kind-word) as-laid ∙ ap (λ (i : ℕ). read (body-of t first ++ (words w (mark-of t) 0 ++ rest)) i kind-word) ref
       ∙ kind-there (body-of t first) rest (k - 1) before (w .kind) (mark-of t) (w .place) (w .c0) (w .c1) (w .c2) (w .c3) 0))
 
   -- a flag set in the last row is set in the tree

@@ -1,7 +1,7 @@
 -- From what a reader leaves in its part to what an entry answers and leaves in the whole pool.
 use mathlib.Core.Path.{_≡_, refl, sym, ap, _∙_}
 use mathlib.Core.Bool.{Bool, true, false}
-use mathlib.Core.List.{List, [], _∷_, _++_, append-assoc, append-nil}
+use mathlib.Core.List.{List, [], _++_, append-assoc, append-nil}
 use Prim.Native.Nat.{ℕ, zero, suc, _+_, _*_, _-_, _/_, _≤_, _<_}
 use native.Mathlib.Omega.{arith}
 use native.Mathlib.Nat.{sub-zero}
@@ -20,7 +20,6 @@ use Rattle.words.proofs.Arrays as arrays
 use Rattle.answer.specs.declared.Answer.{Answer}
 use Rattle.answer.specs.declared.Answer.the-variants as an
 use Rattle.answer.specs.declared.Read.{Read}
-use Rattle.answer.specs.declared.Read.the-variants as the
 use Rattle.answer.specs.declared.Start.the-variants as start
 use Rattle.parser.specs.Meets.{Sound, Ready, Meets, Case, many}
 use Rattle.parser.specs.declared.Entry.{Entry}

@@ -7,9 +7,9 @@ use lib.ListN.{length, drop}
 use Rattle.grammar.specs.Words.{tok, valid, EOF}
 use Rattle.grammar.specs.Tree.{Tree, infixed, node, Trees, nil, _▸_, sizes, lays, head-ref, width}
 use Rattle.grammar.specs.Parsed.{Parsed, refused, read}
+use Rattle.grammar.specs.Script.{largest}
 use Rattle.answer.specs.declared.Read.{Read}
 use Rattle.answer.specs.declared.Read.the-variants as the
-use Rattle.grammar.specs.Script.{largest}
 
 -- An array that was checked: not too long, every word valid, EOF last.
 pub record Sound (ts : List ℕ) : Type 0 where

@@ -4,19 +4,18 @@ use super::part::first_of;
 use super::part::leaf;
 use super::part::put_row;
 use answer::Read;
-use rows::WIDTH;
 use tokens::Symbol;
 use words::Cursor;
 ghost use mathlib.Core.Path.{_≡_};
 ghost use Rattle.grammar.specs.Words.{Identifier, tok};
-ghost use Rattle.grammar.specs.Tree.{nil, width};
+ghost use Rattle.grammar.specs.Tree.{nil};
 ghost use Rattle.grammar.specs.Parsed.{turns};
 ghost use Rattle.grammar.specs.Expressions as spec;
 ghost use Rattle.parser.specs.Meets.{Ready, one, many};
 ghost use Rattle.parser.specs.Contracts.{Fresh};
 
 // The names behind dots: the loop of parse_dot_expression.
-pub fn dots(tokens: &[u16], pool: &mut [u32], first: usize, c: Cursor) -> Read
+fn dots(tokens: &[u16], pool: &mut [u32], first: usize, c: Cursor) -> Read
     requires { ⌜ Ready (now tokens) (now pool) first c ⌝ }
     ensures { λ r. ⌜ Fresh many (spec.dots (now (tokens .entry)) turns nil) (now (tokens .entry)) c first r (now (pool .entry)) (now (pool .exit)) ⌝ }
 {
@@ -52,7 +51,7 @@ pub fn dot_expression(tokens: &[u16], pool: &mut [u32], first: usize, c: Cursor)
     if !words::next_symbol_is(tokens, d, Symbol::SDot) {
         return r;
     }
-    let i = WIDTH * k;
+    let i = rows::end(k as u32);
     let q = dots(tokens, &mut pool[i..], first + k, d);
     let Read::Tree(j, g, e) = q else {
         return q;

@@ -8,16 +8,16 @@ use super::part::passed;
 use super::part::put_row;
 use answer::Read;
 use rows::Flag;
-use rows::WIDTH;
 use tokens::Keyword;
 use tokens::Symbol;
 use tokens::Token;
 use words::Cursor;
 ghost use mathlib.Core.Path.{_≡_};
 ghost use mathlib.Core.Bool.{true};
-ghost use Prim.Native.Nat.{ℕ, _*_, _≤_, _<_};
+ghost use Prim.Native.Nat.{_*_, _≤_, _<_};
 ghost use lib.ListN.{length};
 ghost use Rattle.grammar.specs.Words.{tok, operates};
+ghost use Rattle.grammar.specs.Tree.{width};
 ghost use Rattle.grammar.specs.Parsed.{turns};
 ghost use Rattle.grammar.specs.Expressions as spec;
 ghost use Rattle.tokens.specs.Tokens.{word};
@@ -26,7 +26,6 @@ ghost use Rattle.rows.specs.Rows.{bit};
 ghost use Rattle.parser.specs.Meets.{Ready, one, many};
 ghost use Rattle.parser.specs.Contracts.{Fresh, Behind, Follows, Extends};
 ghost use Rattle.parser.specs.Contracts as contract;
-ghost use Rattle.grammar.specs.Tree.{width};
 
 // parse_expression, where `allow` more expressions and statements may be open.
 pub fn expression(
@@ -49,7 +48,8 @@ pub fn expression(
         return passed(r);
     };
     if words::next_symbol_is(tokens, d, Symbol::SSemiColon) {
-        return Read::Tree(k, h, words::iterate(tokens, d));
+        let e = words::iterate(tokens, d);
+        return Read::Tree(k, h, e);
     }
     climb(tokens, pool, first, k, h, d, order, less)
 }
@@ -212,7 +212,7 @@ pub fn behind(
     requires { ⌜ (Ready (now tokens) (now pool) first c) × (width * rows ≤ length (now pool)) ⌝ }
     ensures { λ r. ⌜ Behind one (contract.item (now (tokens .entry)) (spec.expression (now (tokens .entry)) less) order paired) (now (tokens .entry)) c first rows r (now (pool .entry)) (now (pool .exit)) ⌝ }
 {
-    let i = WIDTH * rows;
+    let i = rows::end(rows as u32);
     let r = item(tokens, &mut pool[i..], first + rows, c, order, paired, less);
     let Read::Tree(k, h, d) = r else {
         return r;
@@ -408,7 +408,7 @@ fn started(
     let Read::Tree(k, _, d) = r else {
         return r;
     };
-    if rows::kind(pool, k) != CALL {
+    if rows::word(pool, k, rows::KIND) != CALL {
         return Read::Refused(NOT_CALLABLE, d);
     }
     rows::mark(pool, k, flag);
@@ -546,7 +546,7 @@ fn list_behind(
     requires { ⌜ (Ready (now tokens) (now pool) first c) × (width * rows ≤ length (now pool)) ⌝ }
     ensures { λ r. ⌜ Behind many (spec.list-expr (now (tokens .entry)) (spec.expression (now (tokens .entry)) less)) (now (tokens .entry)) c first rows r (now (pool .entry)) (now (pool .exit)) ⌝ }
 {
-    let i = WIDTH * rows;
+    let i = rows::end(rows as u32);
     let r = list_expr(tokens, &mut pool[i..], first + rows, c, less);
     let Read::Tree(k, h, d) = r else {
         return r;

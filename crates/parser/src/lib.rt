@@ -16,8 +16,6 @@ use statements::statement;
 use statements::statements;
 use tokens::Token;
 use words::Cursor;
-ghost use mathlib.Core.Path.{_≡_};
-ghost use Prim.Native.Nat.{ℕ, _*_};
 ghost use lib.ListN.{length};
 ghost use Rattle.grammar.specs.Script as spec;
 ghost use Rattle.parser.specs.Meets.{Ready, one, many};
@@ -67,7 +65,7 @@ fn enter(tokens: &[u16], pool: &mut [u32], start: usize, e: Entry) -> Answer
     let s = answer::check(tokens, start);
     match s {
         Start::At(c) => {
-            let n = answer::room(pool.len());
+            let n = rows::end(rows::count(pool.len()));
             let r = read(tokens, &mut pool[0..n], 0, c, e);
             answer::finish(pool, r)
         }

@@ -1,4 +1,6 @@
 // The numbers of refusals and of kinds of rows, by name.
+
+// The refusals.
 pub const TOO_DEEP: u32 = 2;
 
 pub const INVALID_SYNTAX: u32 = 10;
@@ -10,6 +12,18 @@ pub const INVALID_SYMBOL: u32 = 12;
 pub const NOT_IMPLEMENTED: u32 = 13;
 
 pub const INVALID_IDENTIFIER: u32 = 14;
+
+pub const ASSERT_WITHOUT_ACTION: u32 = 15;
+
+pub const ASSERT_WITHOUT_COMMA: u32 = 16;
+
+pub const FUNC_WITHOUT_NAME: u32 = 17;
+
+pub const IF_WITHOUT_BODY: u32 = 18;
+
+pub const CONST_WITHOUT_VALUE: u32 = 19;
+
+pub const EXPECTED_EQ: u32 = 20;
 
 pub const EXPECTED_COLON: u32 = 21;
 
@@ -23,6 +37,13 @@ pub const ARRAY_NOT_TERMINATED: u32 = 25;
 
 pub const NOT_CALLABLE: u32 = 26;
 
+pub const TRY_WITHOUT_CATCH: u32 = 27;
+
+pub const BREAK_WITHOUT_SEMICOLON: u32 = 28;
+
+pub const CONTINUE_WITHOUT_SEMICOLON: u32 = 29;
+
+// The kinds.
 pub const NONE: u32 = 1;
 
 pub const IDENTIFIER: u32 = 2;
@@ -60,24 +81,6 @@ pub const ATTRIBUTE: u32 = 17;
 pub const NAME: u32 = 18;
 
 pub const PAIR: u32 = 19;
-
-pub const ASSERT_WITHOUT_ACTION: u32 = 15;
-
-pub const ASSERT_WITHOUT_COMMA: u32 = 16;
-
-pub const FUNC_WITHOUT_NAME: u32 = 17;
-
-pub const IF_WITHOUT_BODY: u32 = 18;
-
-pub const CONST_WITHOUT_VALUE: u32 = 19;
-
-pub const EXPECTED_EQ: u32 = 20;
-
-pub const TRY_WITHOUT_CATCH: u32 = 27;
-
-pub const BREAK_WITHOUT_SEMICOLON: u32 = 28;
-
-pub const CONTINUE_WITHOUT_SEMICOLON: u32 = 29;
 
 pub const BREAK: u32 = 32;
 

@@ -5,20 +5,20 @@ use rows::Row;
 use tokens::Symbol;
 use words::Cursor;
 ghost use mathlib.Core.Path.{_≡_};
-ghost use Prim.Native.Nat.{ℕ, _+_, _*_, _/_, _≤_, _<_};
+ghost use Prim.Native.Nat.{ℕ, _+_, _*_, _≤_, _<_};
 ghost use mathlib.Core.Bool.{cond};
 ghost use mathlib.Core.List.{List};
 ghost use lib.Dec.{eqb};
 ghost use lib.ListN.{length};
+ghost use Rattle.grammar.specs.Tree.{width};
 ghost use Rattle.grammar.specs.Tree as tree;
 ghost use Rattle.grammar.specs.Parsed.{build};
+ghost use Rattle.grammar.specs.Script.{largest};
 ghost use Rattle.tokens.specs.Tokens.{word};
 ghost use Rattle.tokens.specs.declared.Token.the-variants as token;
 ghost use Rattle.parser.specs.Meets.{Ready, one};
 ghost use Rattle.parser.specs.Contracts.{Fresh, Ends};
 ghost use Rattle.parser.specs.Contracts as contract;
-ghost use Rattle.grammar.specs.Tree.{width};
-ghost use Rattle.grammar.specs.Script.{largest};
 
 // A row behind the first `rows` rows of a part, before which the pool has `first` rows.
 pub fn put_row(

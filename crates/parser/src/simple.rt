@@ -9,18 +9,15 @@ use answer::Read;
 use tokens::Symbol;
 use tokens::Token;
 use words::Cursor;
-ghost use mathlib.Core.Path.{_≡_};
-ghost use Prim.Native.Nat.{ℕ, _*_, _≤_, _<_};
+ghost use Prim.Native.Nat.{_*_, _≤_};
 ghost use lib.ListN.{length};
 ghost use Rattle.grammar.specs.Words.{SSemiColon, step};
 ghost use Rattle.grammar.specs.Tree.{leaf, node, nil, width};
-ghost use Rattle.grammar.specs.Parsed.{turns};
 ghost use Rattle.grammar.specs.Expressions.{expression};
 ghost use Rattle.grammar.specs.Statements as spec;
 ghost use Rattle.tokens.specs.Tokens.{word};
-ghost use Rattle.tokens.specs.declared.Token.the-variants as token;
-ghost use Rattle.parser.specs.Meets.{Ready, one, many};
-ghost use Rattle.parser.specs.Contracts.{Fresh, Behind, Extends, Begun, further};
+ghost use Rattle.parser.specs.Meets.{Ready, one};
+ghost use Rattle.parser.specs.Contracts.{Fresh, Behind};
 ghost use Rattle.parser.specs.Contracts as contract;
 
 // A statement of one row that ends in a semicolon, or else the refusal `number`: break and continue.

@@ -3,7 +3,6 @@ use super::expressions::around;
 use super::expressions::expression;
 use super::expressions::list_expr;
 use super::names::*;
-use super::part::closed;
 use super::part::first_of;
 use super::part::put_row;
 use super::simple::alone;
@@ -13,16 +12,15 @@ use super::simple::const_statement;
 use super::simple::return_statement;
 use super::simple::var_statement;
 use answer::Read;
-use rows::WIDTH;
 use tokens::Keyword;
 use tokens::Symbol;
 use tokens::Token;
 use words::Cursor;
 ghost use mathlib.Core.Path.{_≡_};
-ghost use Prim.Native.Nat.{ℕ, _*_, _≤_, _<_};
+ghost use Prim.Native.Nat.{_*_, _≤_};
 ghost use lib.ListN.{length};
-ghost use Rattle.grammar.specs.Words.{tok, step};
-ghost use Rattle.grammar.specs.Tree.{node, nil, width};
+ghost use Rattle.grammar.specs.Words.{tok};
+ghost use Rattle.grammar.specs.Tree.{width};
 ghost use Rattle.grammar.specs.Parsed.{turns};
 ghost use Rattle.grammar.specs.Expressions.{expression};
 ghost use Rattle.grammar.specs.Statements as spec;
@@ -150,7 +148,7 @@ fn one_behind(
     requires { ⌜ (Ready (now tokens) (now pool) first c) × (width * rows ≤ length (now pool)) ⌝ }
     ensures { λ r. ⌜ (Begun (now (tokens .entry)) c r) × (Behind many (spec.statement (now (tokens .entry)) allow) (now (tokens .entry)) c first rows r (now (pool .entry)) (now (pool .exit))) ⌝ }
 {
-    let i = WIDTH * rows;
+    let i = rows::end(rows as u32);
     let r = statement(tokens, &mut pool[i..], first + rows, c, allow);
     let Read::Tree(k, h, d) = r else {
         return r;
@@ -193,7 +191,7 @@ fn block_behind(
     requires { ⌜ (Ready (now tokens) (now pool) first c) × (width * rows ≤ length (now pool)) ⌝ }
     ensures { λ r. ⌜ Behind one (spec.block (now (tokens .entry)) (expression (now (tokens .entry)) less) (spec.statement (now (tokens .entry)) less)) (now (tokens .entry)) c first rows r (now (pool .entry)) (now (pool .exit)) ⌝ }
 {
-    let i = WIDTH * rows;
+    let i = rows::end(rows as u32);
     let r = block(tokens, &mut pool[i..], first + rows, c, less);
     let Read::Tree(k, h, d) = r else {
         return r;
@@ -430,8 +428,8 @@ fn finally_block(
     block_behind(tokens, pool, first, rows, words::iterate(tokens, c), less)
 }
 
-// The catch of parse_try_statement: an opening brace that comes next, and its block.
-fn catch_block(
+// An opening brace that comes next, and its block: that of a try, and that of its catch.
+fn braced(
     tokens: &[u16],
     pool: &mut [u32],
     first: usize,
@@ -453,7 +451,7 @@ fn try_statement(tokens: &[u16], pool: &mut [u32], first: usize, c: Cursor, less
     requires { ⌜ Ready (now tokens) (now pool) first c ⌝ }
     ensures { λ r. ⌜ Fresh one (spec.try (now (tokens .entry)) (expression (now (tokens .entry)) less) (spec.statement (now (tokens .entry)) less)) (now (tokens .entry)) c first r (now (pool .entry)) (now (pool .exit)) ⌝ }
 {
-    let r0 = catch_block(tokens, pool, first, 0, c, less);
+    let r0 = braced(tokens, pool, first, 0, c, less);
     let Read::Tree(k0, h0, e0) = r0 else {
         return r0;
     };
@@ -462,7 +460,7 @@ fn try_statement(tokens: &[u16], pool: &mut [u32], first: usize, c: Cursor, less
     let Read::Tree(k1, h1, e1) = r1 else {
         return r1;
     };
-    let r2 = catch_block(tokens, pool, first, k1, e1, less);
+    let r2 = braced(tokens, pool, first, k1, e1, less);
     let Read::Tree(k2, h2, e2) = r2 else {
         return r2;
     };

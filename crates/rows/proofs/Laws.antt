@@ -12,7 +12,7 @@ use lib.Seq.{set-append-left, getD-append-add}
 use borrow.Author.Tests.{lt-ltb, le-ltb, le-leb, ltb-true, ltb-false, leb-true}
 use Rattle.grammar.specs.Tree.{width, row, flag}
 use Rattle.grammar.specs.Parsed.{NoRow}
-use Rattle.rows.specs.Rows.{kind-word, mark-word, next-word, placed, built, Builds, is-row, at, linked, marked, kind-of, bit}
+use Rattle.rows.specs.Rows.{kind-word, mark-word, next-word, placed, built, Builds, is-row, at, linked, marked, read, bit}
 use Rattle.rows.specs.declared.Built.{Built}
 use Rattle.rows.specs.declared.Built.the-variants.{Rows, Refused}
 use Rattle.rows.specs.declared.Flag.{Flag}
@@ -117,8 +117,8 @@ module _ (p q : List ℕ) (j : ℕ) (behind : length p ≡ width * j) (kind mark
   abbrev ws : List ℕ
   ws = row kind mark place c0 c1 c2 c3 next
 
-  pub kind-there : kind-of (p ++ (ws ++ q)) (j + 1) ≡ kind
-  unfolding kind-of
+  pub kind-there : read (p ++ (ws ++ q)) (j + 1) kind-word ≡ kind
+  unfolding read
   kind-there = rw (is-there p ws q j behind refl) (read-there p ws q j behind kind-word (omega arith))
 
   pub linked-there : (v : ℕ) → linked (p ++ (ws ++ q)) (j + 1) v ≡ p ++ (row kind mark place c0 c1 c2 c3 v ++ q)

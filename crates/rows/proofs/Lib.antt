@@ -1,5 +1,4 @@
--- Laws of a pool's rows that callers cite, that each contract has one result, and what only the proofs here ask.
+-- Laws of a pool's rows that callers cite, and what only the proofs here ask.
 pub mod Laws
-pub mod Once
 mod Parts
 mod Flags

@@ -4,9 +4,10 @@ use mathlib.Core.Path.{_≡_}
 use mathlib.Core.Bool.{Bool, _&&_, cond}
 use mathlib.Core.List.{List, _++_}
 use lib.Dec.{leb, ltb}
-use lib.ListN.{length, take, drop, set, getD}
+use lib.ListN.{length, take, drop, set}
 use Rattle.grammar.specs.Tree.{width, row, flag, Thread, Async, Grouped}
 use Rattle.grammar.specs.Parsed.{NoRow}
+use Rattle.grammar.specs.Script.{word-of}
 use Rattle.rows.specs.declared.Row.{Row}
 use Rattle.rows.specs.declared.Built.{Built}
 use Rattle.rows.specs.declared.Built.the-variants as answer
@@ -61,8 +62,8 @@ bit a.Grouped = Grouped
 
 -- A pool with a flag in the mark of the row with this reference, where there is such a row.
 unfoldable pub marked : (xs : List ℕ) (reference : ℕ) (f : Flag) → List ℕ
-marked xs reference f = cond (is-row (length xs) reference) (set xs (at reference mark-word) (flag (bit f) (getD xs (at reference mark-word) 0))) xs
+marked xs reference f = cond (is-row (length xs) reference) (set xs (at reference mark-word) (flag (bit f) (word-of xs reference mark-word))) xs
 
--- The kind of the row with this reference, 0 where there is no such row.
-unfoldable pub kind-of : (xs : List ℕ) (reference : ℕ) → ℕ
-kind-of xs reference = cond (is-row (length xs) reference) (getD xs (at reference kind-word) 0) 0
+-- The k-th word of the row with this reference, 0 where there is no such row or word.
+unfoldable pub read : (xs : List ℕ) (reference k : ℕ) → ℕ
+read xs reference k = cond (is-row (length xs) reference && ltb k width) (word-of xs reference k) 0

@@ -1,16 +1,20 @@
-// The rows of a pool: a row is built behind those that are there, linked, marked, and its kind is read.
+// The rows of a pool, whose layout nothing else knows: a row is built behind those that are there, linked, marked and read.
 ghost use mathlib.Core.Path.{_≡_};
 ghost use mathlib.Core.List.{_++_};
-ghost use Prim.Native.Nat.{_≤_};
+ghost use Prim.Native.Nat.{_*_, _≤_};
 ghost use lib.ListN.{length, drop, replicate};
 ghost use Rattle.grammar.specs.Tree.{width, flag};
-ghost use Rattle.rows.specs.Rows.{words, Builds, is-row, linked, marked, bit, kind-of};
+ghost use Rattle.grammar.specs.Script.{rows};
+ghost use Rattle.rows.specs.Rows.{words, Builds, is-row, linked, marked, bit, read};
 
 // How many words a row takes.
 pub const WIDTH: usize = 8;
 
+// The most rows of a pool.
+pub const MOST: usize = 65535;
+
 // Where in its row each word stands that is read or changed later.
-const KIND: usize = 0;
+pub const KIND: usize = 0;
 
 const MARK: usize = 1;
 
@@ -41,6 +45,21 @@ pub enum Flag {
     Thread,
     Async,
     Grouped,
+}
+
+// How many rows a pool of so many words has.
+pub fn count(words: usize) -> u32
+    ensures { λ r. ⌜ r ≡ rows words ⌝ }
+{
+    let n = words / WIDTH;
+    if MOST < n { MOST as u32 } else { n as u32 }
+}
+
+// Where the first rows of a pool end, so many of them, and the part behind them begins.
+pub fn end(rows: u32) -> usize
+    ensures { λ r. ⌜ r ≡ width * rows ⌝ }
+{
+    WIDTH * rows as usize
 }
 
 // A row at the front of a part of the pool.
@@ -117,16 +136,18 @@ pub fn mark(pool: &mut [u32], reference: usize, f: Flag)
     }
 }
 
-// The kind of the row with this reference, 0 where there is no such row.
-pub fn kind(pool: &[u32], reference: usize) -> u32
-    ensures { λ r. ⌜ r ≡ kind-of (now (pool .entry)) reference ⌝ }
+// The k-th word of the row with this reference, 0 where there is no such row or word.
+pub fn word(pool: &[u32], reference: usize, k: usize) -> u32
+    ensures { λ r. ⌜ r ≡ read (now (pool .entry)) reference k ⌝ }
 {
-    if is_row(pool.len(), reference) {
-        let i = WIDTH * (reference - 1) + KIND;
-        pool[i]
-    } else {
-        0
+    if !is_row(pool.len(), reference) {
+        return 0;
     }
+    if WIDTH <= k {
+        return 0;
+    }
+    let i = WIDTH * (reference - 1) + k;
+    pool[i]
 }
 
 // Every word of the pool becomes 0.

@@ -33,6 +33,7 @@ use Rattle.parser.proofs.expressions.climb.Reads as climb-reads
 use Rattle.parser.proofs.part.closed.Reads as closed-reads
 use Rattle.words.proofs.current.Reads as current-reads
 use Rattle.parser.proofs.dots.dot_expression.Reads as dot-expression-reads
+use Rattle.rows.proofs.end.Reads as end-reads
 use Rattle.parser.proofs.expressions.entries.Reads as entries-reads
 use Rattle.parser.proofs.expressions.expression.Reads as expression-reads
 use Rattle.parser.proofs.part.first_of.Reads as first-of-reads
@@ -43,7 +44,6 @@ use Rattle.parser.proofs.expressions.infix_exp.Reads as infix-exp-reads
 use Rattle.orders.proofs.infix_mark.Reads as infix-mark-reads
 use Rattle.parser.proofs.expressions.item.Reads as item-reads
 use Rattle.words.proofs.iterate.Reads as iterate-reads
-use Rattle.rows.proofs.kind.Reads as kind-reads
 use Rattle.parser.proofs.expressions.lambda.Reads as lambda-reads
 use Rattle.parser.proofs.part.leaf.Reads as leaf-reads
 use Rattle.rows.proofs.link.Reads as link-reads
@@ -62,6 +62,7 @@ use Rattle.parser.proofs.part.put_row.Reads as put-row-reads
 use Rattle.parser.proofs.expressions.shell.Reads as shell-reads
 use Rattle.parser.proofs.expressions.started.Reads as started-reads
 use Rattle.parser.proofs.expressions.sub_exp.Reads as sub-exp-reads
+use Rattle.rows.proofs.word.Reads as word-reads
 use Rattle.parser.proofs.expressions.+around+array+at_keyword+at_operator+behind+call+climb+entries+expression+hash+index+infix_exp+item+lambda+list_behind+list_expr+operation+pair+prefix+prefix_part+shell+started+sub_exp.Lts-around as around-lts
 use Rattle.parser.proofs.expressions.+around+array+at_keyword+at_operator+behind+call+climb+entries+expression+hash+index+infix_exp+item+lambda+list_behind+list_expr+operation+pair+prefix+prefix_part+shell+started+sub_exp.Proof.Around as around-needs
 use Rattle.parser.proofs.expressions.+around+array+at_keyword+at_operator+behind+call+climb+entries+expression+hash+index+infix_exp+item+lambda+list_behind+list_expr+operation+pair+prefix+prefix_part+shell+started+sub_exp.Proof.Measures.{μ-around, around-at, around-below}
@@ -220,8 +221,9 @@ pub +around+array+at-keyword+at-operator+behind+call+climb+entries+expression+ha
     (at-operator-needs.same-length-8 t)
     (at-operator-needs.returns-8 t)
     (at-operator-needs.returns-9 t))
-    (λ t. behind-lts.spec (item-below t, item-reads.Post) (behind-at t) behind-reads.Post
-    (behind-needs.mul-i t)
+    (λ t. behind-lts.spec (end-reads.Asked, end-reads.Learnt, item-below t, item-reads.Post) (behind-at t) behind-reads.Post
+    (behind-needs.cast-end t)
+    (behind-needs.end-requires t)
     (behind-needs.mul-item t)
     (behind-needs.sub-item t)
     (behind-needs.part-item-start t)
@@ -232,7 +234,7 @@ pub +around+array+at-keyword+at-operator+behind+call+climb+entries+expression+ha
     (behind-needs.enum-told t)
     (behind-needs.same-length t)
     (behind-needs.returns t)
-    (behind-needs.add-t14 t)
+    (behind-needs.add-t15 t)
     (behind-needs.same-length-2 t)
     (behind-needs.returns-2 t))
     (λ t. call-lts.spec (next-symbol-is-reads.Asked, next-symbol-is-reads.Learnt, iterate-reads.Asked, iterate-reads.Learnt, put-row-reads.Asked, put-row-reads.Learnt, list-behind-below t, list-behind-reads.Post) (call-at t) call-reads.Post
@@ -369,8 +371,9 @@ pub +around+array+at-keyword+at-operator+behind+call+climb+entries+expression+ha
     (lambda-needs.put-row-requires t)
     (lambda-needs.same-length-4 t)
     (lambda-needs.returns-6 t))
-    (λ t. list-behind-lts.spec (list-expr-below t, list-expr-reads.Post) (list-behind-at t) list-behind-reads.Post
-    (list-behind-needs.mul-i t)
+    (λ t. list-behind-lts.spec (end-reads.Asked, end-reads.Learnt, list-expr-below t, list-expr-reads.Post) (list-behind-at t) list-behind-reads.Post
+    (list-behind-needs.cast-end t)
+    (list-behind-needs.end-requires t)
     (list-behind-needs.mul-list-expr t)
     (list-behind-needs.sub-list-expr t)
     (list-behind-needs.part-list-expr-start t)
@@ -381,7 +384,7 @@ pub +around+array+at-keyword+at-operator+behind+call+climb+entries+expression+ha
     (list-behind-needs.enum-told t)
     (list-behind-needs.same-length t)
     (list-behind-needs.returns t)
-    (list-behind-needs.add-t12 t)
+    (list-behind-needs.add-t13 t)
     (list-behind-needs.same-length-2 t)
     (list-behind-needs.returns-2 t))
     (λ t. list-expr-lts.spec (next-symbol-is-reads.Asked, next-symbol-is-reads.Learnt, iterate-reads.Asked, iterate-reads.Learnt, expression-below t, expression-reads.Post, entries-below t, entries-reads.Post) (list-expr-at t) list-expr-reads.Post
@@ -484,14 +487,14 @@ pub +around+array+at-keyword+at-operator+behind+call+climb+entries+expression+ha
     (shell-needs.around-requires-2 t)
     (shell-needs.same-length-2 t)
     (shell-needs.returns-2 t))
-    (λ t. started-lts.spec (iterate-reads.Asked, iterate-reads.Learnt, expression-below t, expression-reads.Post, kind-reads.Asked, kind-reads.Learnt, mark-reads.Asked, mark-reads.Learnt) (started-at t) started-reads.Post
+    (λ t. started-lts.spec (iterate-reads.Asked, iterate-reads.Learnt, expression-below t, expression-reads.Post, word-reads.Asked, word-reads.Learnt, mark-reads.Asked, mark-reads.Learnt) (started-at t) started-reads.Post
     (started-needs.iterate-requires t)
     (started-needs.expression-requires t)
     (started-needs.enum-known-r t)
     (started-needs.enum-told t)
     (started-needs.same-length t)
     (started-needs.returns t)
-    (started-needs.kind-requires t)
+    (started-needs.word-requires t)
     (started-needs.same-length-2 t)
     (started-needs.returns-2 t)
     (started-needs.mark-requires t)

@@ -7,38 +7,43 @@ use Rattle.parser.specs.Contracts.{item}
 use Rattle.parser.proofs.Answers.{taken, TakenOf, bounded-tree, bounded-told}
 use Rattle.parser.proofs.Parts.{ready-lent, in-part, back-read, back-refused, back-same, part-length}
 use Rattle.parser.proofs.Moves.{falls, le-refl}
+use borrow.Author.Needs.{needs}
 use Rattle.parser.proofs.expressions.behind.Reads as behind-reads
+use Rattle.rows.proofs.end.Reads as end-reads
 use Rattle.parser.proofs.expressions.item.Reads as item-reads
 use Rattle.parser.proofs.expressions.+around+array+at_keyword+at_operator+behind+call+climb+entries+expression+hash+index+infix_exp+item+lambda+list_behind+list_expr+operation+pair+prefix+prefix_part+shell+started+sub_exp.Lts-behind as lts
 use Rattle.parser.proofs.expressions.+around+array+at_keyword+at_operator+behind+call+climb+entries+expression+hash+index+infix_exp+item+lambda+list_behind+list_expr+operation+pair+prefix+prefix_part+shell+started+sub_exp.Proof.Measures.{behind-at, item-below}
 
 module _ (t : ℕ) where
   abbrev cs : lts.Claims
-  cs = (item-below t, item-reads.Post)
+  cs = (end-reads.Asked, end-reads.Learnt, item-below t, item-reads.Post)
 
-  read-1 : (c : lts.After-r cs (behind-at t) behind-reads.Post) → TakenOf (c .before .before .before .before .item .ensures) (c .r .given .1)
-  read-1 c = taken (c .before .before .before .before .item .ensures) (c .r .given .1)
+  read-1 : (c : lts.After-r cs (behind-at t) behind-reads.Post) → TakenOf (rw (c .before .before .before .before .before .before .end .ensures) at (c .before .before .before .before .item .ensures)) (c .r .given .1)
+  read-1 c = taken (rw (c .before .before .before .before .before .before .end .ensures) at (c .before .before .before .before .item .ensures)) (c .r .given .1)
 
-  pub mul-i : lts.Need-mul-i cs (behind-at t) behind-reads.Post
-  mul-i c = omega (arith, c .before .before .pre .1 .1, c .before .before .pre .1 .0 .fits)
+  pub cast-end : lts.Need-cast-end cs (behind-at t) behind-reads.Post
+  cast-end c = omega (arith, c .before .before .pre .1 .1, c .before .before .pre .1 .0 .fits)
+
+  pub end-requires : lts.Need-end-requires cs (behind-at t) behind-reads.Post
+  end-requires c κs = search needs
 
   pub mul-item : lts.Need-mul-item cs (behind-at t) behind-reads.Post
-  mul-item c = omega (arith, c .before .before .pre .1 .1, c .before .before .pre .1 .0 .fits)
+  mul-item c = omega (arith, c .before .before .before .pre .1 .1, c .before .before .before .pre .1 .0 .fits, c .end .ensures)
 
   pub sub-item : lts.Need-sub-item cs (behind-at t) behind-reads.Post
-  sub-item c = c .before .before .pre .1 .1
+  sub-item c = omega (arith, c .before .before .before .pre .1 .1, c .end .ensures)
 
   pub part-item-start : lts.Need-part-item-start cs (behind-at t) behind-reads.Post
-  part-item-start c = c .before .before .pre .1 .1
+  part-item-start c = omega (arith, c .before .before .before .pre .1 .1, c .end .ensures)
 
   pub part-item-end : lts.Need-part-item-end cs (behind-at t) behind-reads.Post
   part-item-end c = omega arith
 
   pub add-item : lts.Need-add-item cs (behind-at t) behind-reads.Post
-  add-item c = omega (arith, c .before .before .before .pre .1 .1, c .before .before .before .pre .1 .0 .fits)
+  add-item c = omega (arith, c .before .before .before .before .pre .1 .1, c .before .before .before .before .pre .1 .0 .fits)
 
   pub item-requires : lts.Need-item-requires cs (behind-at t) behind-reads.Post
-  item-requires c κs = (falls _ _ _ _ _ _ _ (c .before .before .before .pre .0) (le-refl _) (lit< tt), ready-lent (c .before .before .before .args .rows) (c .before .before .before .pre .1 .0) (c .before .before .before .pre .1 .1))
+  item-requires c κs = (falls _ _ _ _ _ _ _ (c .before .before .before .before .pre .0) (le-refl _) (lit< tt), rw (c .before .end .ensures) (ready-lent (c .before .before .before .before .args .rows) (c .before .before .before .before .pre .1 .0) (c .before .before .before .before .pre .1 .1)))
 
   pub enum-known-r : lts.Need-enum-known-r cs (behind-at t) behind-reads.Post
   enum-known-r c = c .match .keys1
@@ -47,19 +52,19 @@ module _ (t : ℕ) where
   enum-told c = c .match .keys2
 
   pub same-length : lts.Need-same-length cs (behind-at t) behind-reads.Post
-  same-length c = back-same (c .before .before .before .before .before .before .before .before .args .rows) (c .before .before .before .before .before .before .before .before .args .pool .now) (c .before .before .before .before .item .last .1 .0) (c .before .before .before .before .item .kept .1 .0)
+  same-length c = back-same (c .before .before .before .before .before .before .end .result) (c .before .before .before .before .before .before .before .before .before .args .pool .now) (c .before .before .before .before .item .last .1 .0) (c .before .before .before .before .item .kept .1 .0)
 
   pub returns : lts.Need-returns cs (behind-at t) behind-reads.Post
-  returns c = (bounded-told (c .enum-told .given .1), λ from slots zs left s. back-refused (in-part (item (c .before .before .before .before .before .before .before .before .args .tokens .now) (expression (c .before .before .before .before .before .before .before .before .args .tokens .now) (c .before .before .before .before .before .before .before .before .args .less)) (c .before .before .before .before .before .before .before .before .args .order) (c .before .before .before .before .before .before .before .before .args .paired) (c .before .before .before .before .before .before .before .before .args .c)) s (c .before .before .before .before .item .ensures)) (c .enum-told .given .1))
+  returns c = (bounded-told (c .enum-told .given .1), λ from slots zs left s. back-refused (in-part (item (c .before .before .before .before .before .before .before .before .before .args .tokens .now) (expression (c .before .before .before .before .before .before .before .before .before .args .tokens .now) (c .before .before .before .before .before .before .before .before .before .args .less)) (c .before .before .before .before .before .before .before .before .before .args .order) (c .before .before .before .before .before .before .before .before .before .args .paired) (c .before .before .before .before .before .before .before .before .before .args .c)) s (rw (c .before .before .before .before .before .before .end .ensures) at (c .before .before .before .before .item .ensures))) (c .enum-told .given .1))
 
-  pub add-t14 : lts.Need-add-t14 cs (behind-at t) behind-reads.Post
-  add-t14 c = omega (arith, read-1 (c .before) .stands .front .fit, part-length (c .before .before .before .before .before .before .before .before .before .args .rows) (c .before .before .before .before .before .before .before .before .before .args .pool .now), c .before .before .before .before .before .before .before .before .before .pre .1 .1, c .before .before .before .before .before .before .before .before .before .pre .1 .0 .fits)
+  pub add-t15 : lts.Need-add-t15 cs (behind-at t) behind-reads.Post
+  add-t15 c = omega (arith, read-1 (c .before) .stands .front .fit, part-length (c .before .before .before .before .before .before .before .before .before .before .args .rows) (c .before .before .before .before .before .before .before .before .before .before .args .pool .now), c .before .before .before .before .before .before .before .before .before .before .pre .1 .1, c .before .before .before .before .before .before .before .before .before .before .pre .1 .0 .fits)
 
   pub same-length-2 : lts.Need-same-length-2 cs (behind-at t) behind-reads.Post
-  same-length-2 c = back-same (c .before .before .before .before .before .before .before .before .before .args .rows) (c .before .before .before .before .before .before .before .before .before .args .pool .now) (c .before .before .before .before .before .item .last .1 .0) (c .before .before .before .before .before .item .kept .1 .0)
+  same-length-2 c = back-same (c .before .before .before .before .before .before .before .end .result) (c .before .before .before .before .before .before .before .before .before .before .args .pool .now) (c .before .before .before .before .before .item .last .1 .0) (c .before .before .before .before .before .item .kept .1 .0)
 
   pub returns-2 : lts.Need-returns-2 cs (behind-at t) behind-reads.Post
   returns-2 c = (
-    bounded-tree (omega (arith, read-1 (c .before) .stands .front .fit, part-length (c .before .before .before .before .before .before .before .before .before .args .rows) (c .before .before .before .before .before .before .before .before .before .args .pool .now), c .before .before .before .before .before .before .before .before .before .pre .1 .1)) (read-1 (c .before) .stands .on) (read-1 (c .before) .stands .within),
-    λ from slots zs left s. back-read s (in-part (item (c .before .before .before .before .before .before .before .before .before .args .tokens .now) (expression (c .before .before .before .before .before .before .before .before .before .args .tokens .now) (c .before .before .before .before .before .before .before .before .before .args .less)) (c .before .before .before .before .before .before .before .before .before .args .order) (c .before .before .before .before .before .before .before .before .before .args .paired) (c .before .before .before .before .before .before .before .before .before .args .c)) s (c .before .before .before .before .before .item .ensures)) (c .before .r .given .1),
+    bounded-tree (omega (arith, read-1 (c .before) .stands .front .fit, part-length (c .before .before .before .before .before .before .before .before .before .before .args .rows) (c .before .before .before .before .before .before .before .before .before .before .args .pool .now), c .before .before .before .before .before .before .before .before .before .before .pre .1 .1)) (read-1 (c .before) .stands .on) (read-1 (c .before) .stands .within),
+    λ from slots zs left s. rw (c .before .before .before .before .before .before .before .end .ensures) (back-read s (in-part (item (c .before .before .before .before .before .before .before .before .before .before .args .tokens .now) (expression (c .before .before .before .before .before .before .before .before .before .before .args .tokens .now) (c .before .before .before .before .before .before .before .before .before .before .args .less)) (c .before .before .before .before .before .before .before .before .before .before .args .order) (c .before .before .before .before .before .before .before .before .before .before .args .paired) (c .before .before .before .before .before .before .before .before .before .before .args .c)) s (rw (c .before .before .before .before .before .before .before .end .ensures) at (c .before .before .before .before .before .item .ensures))) (c .before .r .given .1)),
   )

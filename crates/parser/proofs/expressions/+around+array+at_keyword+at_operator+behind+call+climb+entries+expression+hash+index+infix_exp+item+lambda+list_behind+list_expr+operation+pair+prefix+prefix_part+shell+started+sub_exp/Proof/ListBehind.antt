@@ -6,6 +6,8 @@ use Rattle.grammar.specs.Expressions.{expression, list-expr}
 use Rattle.parser.proofs.Answers.{taken, TakenOf, bounded-tree, bounded-told}
 use Rattle.parser.proofs.Parts.{ready-lent, in-part, back-read, back-refused, back-same, part-length}
 use Rattle.parser.proofs.Moves.{falls, le-refl}
+use borrow.Author.Needs.{needs}
+use Rattle.rows.proofs.end.Reads as end-reads
 use Rattle.parser.proofs.expressions.list_behind.Reads as list-behind-reads
 use Rattle.parser.proofs.expressions.list_expr.Reads as list-expr-reads
 use Rattle.parser.proofs.expressions.+around+array+at_keyword+at_operator+behind+call+climb+entries+expression+hash+index+infix_exp+item+lambda+list_behind+list_expr+operation+pair+prefix+prefix_part+shell+started+sub_exp.Lts-list_behind as lts
@@ -13,31 +15,34 @@ use Rattle.parser.proofs.expressions.+around+array+at_keyword+at_operat
 
 module _ (t : ℕ) where
   abbrev cs : lts.Claims
-  cs = (list-expr-below t, list-expr-reads.Post)
+  cs = (end-reads.Asked, end-reads.Learnt, list-expr-below t, list-expr-reads.Post)
 
-  read-1 : (c : lts.After-r cs (list-behind-at t) list-behind-reads.Post) → TakenOf (c .before .before .before .before .list-expr .ensures) (c .r .given .1)
-  read-1 c = taken (c .before .before .before .before .list-expr .ensures) (c .r .given .1)
+  read-1 : (c : lts.After-r cs (list-behind-at t) list-behind-reads.Post) → TakenOf (rw (c .before .before .before .before .before .before .end .ensures) at (c .before .before .before .before .list-expr .ensures)) (c .r .given .1)
+  read-1 c = taken (rw (c .before .before .before .before .before .before .end .ensures) at (c .before .before .before .before .list-expr .ensures)) (c .r .given .1)
 
-  pub mul-i : lts.Need-mul-i cs (list-behind-at t) list-behind-reads.Post
-  mul-i c = omega (arith, c .before .before .pre .1 .1, c .before .before .pre .1 .0 .fits)
+  pub cast-end : lts.Need-cast-end cs (list-behind-at t) list-behind-reads.Post
+  cast-end c = omega (arith, c .before .before .pre .1 .1, c .before .before .pre .1 .0 .fits)
+
+  pub end-requires : lts.Need-end-requires cs (list-behind-at t) list-behind-reads.Post
+  end-requires c κs = search needs
 
   pub mul-list-expr : lts.Need-mul-list-expr cs (list-behind-at t) list-behind-reads.Post
-  mul-list-expr c = omega (arith, c .before .before .pre .1 .1, c .before .before .pre .1 .0 .fits)
+  mul-list-expr c = omega (arith, c .before .before .before .pre .1 .1, c .before .before .before .pre .1 .0 .fits, c .end .ensures)
 
   pub sub-list-expr : lts.Need-sub-list-expr cs (list-behind-at t) list-behind-reads.Post
-  sub-list-expr c = c .before .before .pre .1 .1
+  sub-list-expr c = omega (arith, c .before .before .before .pre .1 .1, c .end .ensures)
 
   pub part-list-expr-start : lts.Need-part-list-expr-start cs (list-behind-at t) list-behind-reads.Post
-  part-list-expr-start c = c .before .before .pre .1 .1
+  part-list-expr-start c = omega (arith, c .before .before .before .pre .1 .1, c .end .ensures)
 
   pub part-list-expr-end : lts.Need-part-list-expr-end cs (list-behind-at t) list-behind-reads.Post
   part-list-expr-end c = omega arith
 
   pub add-list-expr : lts.Need-add-list-expr cs (list-behind-at t) list-behind-reads.Post
-  add-list-expr c = omega (arith, c .before .before .before .pre .1 .1, c .before .before .before .pre .1 .0 .fits)
+  add-list-expr c = omega (arith, c .before .before .before .before .pre .1 .1, c .before .before .before .before .pre .1 .0 .fits)
 
   pub list-expr-requires : lts.Need-list-expr-requires cs (list-behind-at t) list-behind-reads.Post
-  list-expr-requires c κs = (falls _ _ _ _ _ _ _ (c .before .before .before .pre .0) (le-refl _) (lit< tt), ready-lent (c .before .before .before .args .rows) (c .before .before .before .pre .1 .0) (c .before .before .before .pre .1 .1))
+  list-expr-requires c κs = (falls _ _ _ _ _ _ _ (c .before .before .before .before .pre .0) (le-refl _) (lit< tt), rw (c .before .end .ensures) (ready-lent (c .before .before .before .before .args .rows) (c .before .before .before .before .pre .1 .0) (c .before .before .before .before .pre .1 .1)))
 
   pub enum-known-r : lts.Need-enum-known-r cs (list-behind-at t) list-behind-reads.Post
   enum-known-r c = c .match .keys1
@@ -46,19 +51,19 @@ module _ (t : ℕ) where
   enum-told c = c .match .keys2
 
   pub same-length : lts.Need-same-length cs (list-behind-at t) list-behind-reads.Post
-  same-length c = back-same (c .before .before .before .before .before .before .before .before .args .rows) (c .before .before .before .before .before .before .before .before .args .pool .now) (c .before .before .before .before .list-expr .last .1 .0) (c .before .before .before .before .list-expr .kept .1 .0)
+  same-length c = back-same (c .before .before .before .before .before .before .end .result) (c .before .before .before .before .before .before .before .before .before .args .pool .now) (c .before .before .before .before .list-expr .last .1 .0) (c .before .before .before .before .list-expr .kept .1 .0)
 
   pub returns : lts.Need-returns cs (list-behind-at t) list-behind-reads.Post
-  returns c = (bounded-told (c .enum-told .given .1), λ from slots zs left s. back-refused (in-part (list-expr (c .before .before .before .before .before .before .before .before .args .tokens .now) (expression (c .before .before .before .before .before .before .before .before .args .tokens .now) (c .before .before .before .before .before .before .before .before .args .less)) (c .before .before .before .before .before .before .before .before .args .c)) s (c .before .before .before .before .list-expr .ensures)) (c .enum-told .given .1))
+  returns c = (bounded-told (c .enum-told .given .1), λ from slots zs left s. back-refused (in-part (list-expr (c .before .before .before .before .before .before .before .before .before .args .tokens .now) (expression (c .before .before .before .before .before .before .before .before .before .args .tokens .now) (c .before .before .before .before .before .before .before .before .before .args .less)) (c .before .before .before .before .before .before .before .before .before .args .c)) s (rw (c .before .before .before .before .before .before .end .ensures) at (c .before .before .before .before .list-expr .ensures))) (c .enum-told .given .1))
 
-  pub add-t12 : lts.Need-add-t12 cs (list-behind-at t) list-behind-reads.Post
-  add-t12 c = omega (arith, read-1 (c .before) .stands .front .fit, part-length (c .before .before .before .before .before .before .before .before .before .args .rows) (c .before .before .before .before .before .before .before .before .before .args .pool .now), c .before .before .before .before .before .before .before .before .before .pre .1 .1, c .before .before .before .before .before .before .before .before .before .pre .1 .0 .fits)
+  pub add-t13 : lts.Need-add-t13 cs (list-behind-at t) list-behind-reads.Post
+  add-t13 c = omega (arith, read-1 (c .before) .stands .front .fit, part-length (c .before .before .before .before .before .before .before .before .before .before .args .rows) (c .before .before .before .before .before .before .before .before .before .before .args .pool .now), c .before .before .before .before .before .before .before .before .before .before .pre .1 .1, c .before .before .before .before .before .before .before .before .before .before .pre .1 .0 .fits)
 
   pub same-length-2 : lts.Need-same-length-2 cs (list-behind-at t) list-behind-reads.Post
-  same-length-2 c = back-same (c .before .before .before .before .before .before .before .before .before .args .rows) (c .before .before .before .before .before .before .before .before .before .args .pool .now) (c .before .before .before .before .before .list-expr .last .1 .0) (c .before .before .before .before .before .list-expr .kept .1 .0)
+  same-length-2 c = back-same (c .before .before .before .before .before .before .before .end .result) (c .before .before .before .before .before .before .before .before .before .before .args .pool .now) (c .before .before .before .before .before .list-expr .last .1 .0) (c .before .before .before .before .before .list-expr .kept .1 .0)
 
   pub returns-2 : lts.Need-returns-2 cs (list-behind-at t) list-behind-reads.Post
   returns-2 c = (
-    bounded-tree (omega (arith, read-1 (c .before) .stands .front .fit, part-length (c .before .before .before .before .before .before .before .before .before .args .rows) (c .before .before .before .before .before .before .before .before .before .args .pool .now), c .before .before .before .before .before .before .before .before .before .pre .1 .1)) (read-1 (c .before) .stands .on) (read-1 (c .before) .stands .within),
-    λ from slots zs left s. back-read s (in-part (list-expr (c .before .before .before .before .before .before .before .before .before .args .tokens .now) (expression (c .before .before .before .before .before .before .before .before .before .args .tokens .now) (c .before .before .before .before .before .before .before .before .before .args .less)) (c .before .before .before .before .before .before .before .before .before .args .c)) s (c .before .before .before .before .before .list-expr .ensures)) (c .before .r .given .1),
+    bounded-tree (omega (arith, read-1 (c .before) .stands .front .fit, part-length (c .before .before .before .before .before .before .before .before .before .before .args .rows) (c .before .before .before .before .before .before .before .before .before .before .args .pool .now), c .before .before .before .before .before .before .before .before .before .before .pre .1 .1)) (read-1 (c .before) .stands .on) (read-1 (c .before) .stands .within),
+    λ from slots zs left s. rw (c .before .before .before .before .before .before .before .end .ensures) (back-read s (in-part (list-expr (c .before .before .before .before .before .before .before .before .before .before .args .tokens .now) (expression (c .before .before .before .before .before .before .before .before .before .before .args .tokens .now) (c .before .before .before .before .before .before .before .before .before .before .args .less)) (c .before .before .before .before .before .before .before .before .before .before .args .c)) s (rw (c .before .before .before .before .before .before .before .end .ensures) at (c .before .before .before .before .before .list-expr .ensures))) (c .before .r .given .1)),
   )

@@ -12,15 +12,15 @@ use Rattle.parser.proofs.Matches.{reads-marked}
 use borrow.Author.Needs.{needs}
 use Rattle.parser.proofs.expressions.expression.Reads as expression-reads
 use Rattle.words.proofs.iterate.Reads as iterate-reads
-use Rattle.rows.proofs.kind.Reads as kind-reads
 use Rattle.rows.proofs.mark.Reads as mark-reads
 use Rattle.parser.proofs.expressions.started.Reads as started-reads
+use Rattle.rows.proofs.word.Reads as word-reads
 use Rattle.parser.proofs.expressions.+around+array+at_keyword+at_operator+behind+call+climb+entries+expression+hash+index+infix_exp+item+lambda+list_behind+list_expr+operation+pair+prefix+prefix_part+shell+started+sub_exp.Lts-started as lts
 use Rattle.parser.proofs.expressions.+around+array+at_keyword+at_operator+behind+call+climb+entries+expression+hash+index+infix_exp+item+lambda+list_behind+list_expr+operation+pair+prefix+prefix_part+shell+started+sub_exp.Proof.Measures.{started-at, expression-below}
 
 module _ (t : ℕ) where
   abbrev cs : lts.Claims
-  cs = (iterate-reads.Asked, iterate-reads.Learnt, expression-below t, expression-reads.Post, kind-reads.Asked, kind-reads.Learnt, mark-reads.Asked, mark-reads.Learnt)
+  cs = (iterate-reads.Asked, iterate-reads.Learnt, expression-below t, expression-reads.Post, word-reads.Asked, word-reads.Learnt, mark-reads.Asked, mark-reads.Learnt)
 
   read-1 : (c : lts.After-r cs (started-at t) started-reads.Post) → TakenOf (c .before .before .before .before .expression .ensures) (c .r .given .1)
   read-1 c = taken (c .before .before .before .before .expression .ensures) (c .r .given .1)
@@ -44,15 +44,15 @@ module _ (t : ℕ) where
   unfolding started
   returns c = rw (← (c .before .before .before .before .before .iterate .ensures)) (pass _ (c .before .before .before .before .expression .ensures) (c .enum-told .given .1))
 
-  pub kind-requires : lts.Need-kind-requires cs (started-at t) started-reads.Post
-  kind-requires c κs = search needs
+  pub word-requires : lts.Need-word-requires cs (started-at t) started-reads.Post
+  word-requires c κs = search needs
 
   pub same-length-2 : lts.Need-same-length-2 cs (started-at t) started-reads.Post
   same-length-2 c = c .before .before .before .before .before .before .before .before .expression .kept .1 .0
 
   pub returns-2 : lts.Need-returns-2 cs (started-at t) started-reads.Post
   unfolding started
-  returns-2 c = refuses _ _ _ (rw (← (c .before .before .before .before .before .before .before .before .before .iterate .ensures)) (then-read _ (read-1 (c .before .before .before .before) .eq) ∙ need-failed _ _ _ (is-called _ (read-1 (c .before .before .before .before) .stands) ∙ ap (λ (n : ℕ). eqb n 11) (sym (c .before .kind .ensures)) ∙ ne-eqb _ _ (c .if1 .taken))))
+  returns-2 c = refuses _ _ _ (rw (← (c .before .before .before .before .before .before .before .before .before .iterate .ensures)) (then-read _ (read-1 (c .before .before .before .before) .eq) ∙ need-failed _ _ _ (is-called _ (read-1 (c .before .before .before .before) .stands) ∙ ap (λ (n : ℕ). eqb n 11) (sym (c .before .word .ensures)) ∙ ne-eqb _ _ (c .if1 .taken))))
 
   pub mark-requires : lts.Need-mark-requires cs (started-at t) started-reads.Post
   mark-requires c κs = search needs
@@ -63,4 +63,4 @@ module _ (t : ℕ) where
   pub returns-3 : lts.Need-returns-3 cs (started-at t) started-reads.Post
   unfolding started
   returns-3 c =
-      sooner (on-step _ _ (c .before .before .before .before .before .before .before .before .before .before .before .before .before .iterate .ensures)) (by-eq (rw (← (c .before .before .before .before .before .before .before .before .before .before .before .before .before .iterate .ensures)) (then-read _ (read-1 (c .before .before .before .before .before .before .before .before) .eq) ∙ need-met _ _ _ (is-called _ (read-1 (c .before .before .before .before .before .before .before .before) .stands) ∙ ap (λ (n : ℕ). eqb n 11) (sym (c .before .before .before .before .before .kind .ensures)) ∙ eq-eqb _ _ (c .before .before .before .before .if1 .left)))) (reads-marked _ _ (read-1 (c .before .before .before .before .before .before .before .before) .stands) (read-1 (c .before .before .before .before .before .before .before .before) .head) (c .before .before .mark .ensures)))
+      sooner (on-step _ _ (c .before .before .before .before .before .before .before .before .before .before .before .before .before .iterate .ensures)) (by-eq (rw (← (c .before .before .before .before .before .before .before .before .before .before .before .before .before .iterate .ensures)) (then-read _ (read-1 (c .before .before .before .before .before .before .before .before) .eq) ∙ need-met _ _ _ (is-called _ (read-1 (c .before .before .before .before .before .before .before .before) .stands) ∙ ap (λ (n : ℕ). eqb n 11) (sym (c .before .before .before .before .before .word .ensures)) ∙ eq-eqb _ _ (c .before .before .before .before .if1 .left)))) (reads-marked _ _ (read-1 (c .before .before .before .before .before .before .before .before) .stands) (read-1 (c .before .before .before .before .before .before .before .before) .head) (c .before .before .mark .ensures)))

@@ -21,8 +21,8 @@ use Rattle.parser.proofs.expressions.expression.Reads as expression-rea
 use Rattle.parser.proofs.statements.for_loop.Reads as for-loop-reads
 use Rattle.words.proofs.iterate.Reads as iterate-reads
 use Rattle.parser.proofs.part.put_row.Reads as put-row-reads
-use Rattle.parser.proofs.statements.+at_keyword+block+block_behind+body+catch_block+else_block+finally_block+for_each+for_loop+function+if_statement+one_behind+open_body+statement+statements+try_statement+while_statement.Lts-for_loop as lts
-use Rattle.parser.proofs.statements.+at_keyword+block+block_behind+body+catch_block+else_block+finally_block+for_each+for_loop+function+if_statement+one_behind+open_body+statement+statements+try_statement+while_statement.Proof.Measures.{for-loop-at, body-below}
+use Rattle.parser.proofs.statements.+at_keyword+block+block_behind+body+braced+else_block+finally_block+for_each+for_loop+function+if_statement+one_behind+open_body+statement+statements+try_statement+while_statement.Lts-for_loop as lts
+use Rattle.parser.proofs.statements.+at_keyword+block+block_behind+body+braced+else_block+finally_block+for_each+for_loop+function+if_statement+one_behind+open_body+statement+statements+try_statement+while_statement.Proof.Measures.{for-loop-at, body-below}
 
 -- The definition, one reading after another.
 module _ (ts : List ℕ) (expr : Rec) (stmt : Reader Trees) (start room : ℕ) {d : ℕ} (i : d ≡ step ts start) where

@@ -25,8 +25,8 @@ use Rattle.words.proofs.iterate.Reads as iterate-reads
 use Rattle.rows.proofs.link.Reads as link-reads
 use Rattle.parser.proofs.statements.one_behind.Reads as one-behind-reads
 use Rattle.parser.proofs.statements.statements.Reads as statements-reads
-use Rattle.parser.proofs.statements.+at_keyword+block+block_behind+body+catch_block+else_block+finally_block+for_each+for_loop+function+if_statement+one_behind+open_body+statement+statements+try_statement+while_statement.Lts-statements as lts
-use Rattle.parser.proofs.statements.+at_keyword+block+block_behind+body+catch_block+else_block+finally_block+for_each+for_loop+function+if_statement+one_behind+open_body+statement+statements+try_statement+while_statement.Proof.Measures.{statements-at, one-behind-below}
+use Rattle.parser.proofs.statements.+at_keyword+block+block_behind+body+braced+else_block+finally_block+for_each+for_loop+function+if_statement+one_behind+open_body+statement+statements+try_statement+while_statement.Lts-statements as lts
+use Rattle.parser.proofs.statements.+at_keyword+block+block_behind+body+braced+else_block+finally_block+for_each+for_loop+function+if_statement+one_behind+open_body+statement+statements+try_statement+while_statement.Proof.Measures.{statements-at, one-behind-below}
 
 -- What holds at each turn: the numbers fit, and from any list in the first rows the definition's loop has come as far.
 pub record Inv (ts pool₀ : List ℕ) (first : ℕ) (close : Token) (allow k₀ h₀ : ℕ) (d₀ : ℕ) (pool : List ℕ) (k h : ℕ) (d : ℕ) : Type 0 where

@@ -11,8 +11,8 @@ use Rattle.parser.proofs.statements.block_behind.Reads as block-behind-
 use Rattle.parser.proofs.statements.block_behind.Kinds as block-behind-kinds
 use Rattle.parser.proofs.statements.body.Reads as body-reads
 use Rattle.parser.proofs.statements.body.Kinds as body-kinds
-use Rattle.parser.proofs.statements.catch_block.Reads as catch-block-reads
-use Rattle.parser.proofs.statements.catch_block.Kinds as catch-block-kinds
+use Rattle.parser.proofs.statements.braced.Reads as braced-reads
+use Rattle.parser.proofs.statements.braced.Kinds as braced-kinds
 use Rattle.parser.proofs.statements.else_block.Reads as else-block-reads
 use Rattle.parser.proofs.statements.else_block.Kinds as else-block-kinds
 use Rattle.parser.proofs.statements.finally_block.Reads as finally-block-reads
@@ -74,14 +74,14 @@ body-at t = and 2 body-kinds.ps (is 2 body-kinds.ps μ-body t) body-reads.Pre
 abbrev pub body-below : ℕ → In 2 body-kinds.ps
 body-below t = and 2 body-kinds.ps (falls 2 body-kinds.ps _<_ μ-body t) body-reads.Pre
 
-abbrev pub μ-catch-block : Measures 2 catch-block-kinds.ps ℕ
-μ-catch-block κs a = 16 * (a .1 .1 .1 .1 .1 .0 + (length (a .0 .now) - a .1 .1 .1 .1 .0)) + 5
+abbrev pub μ-braced : Measures 2 braced-kinds.ps ℕ
+μ-braced κs a = 16 * (a .1 .1 .1 .1 .1 .0 + (length (a .0 .now) - a .1 .1 .1 .1 .0)) + 5
 
-abbrev pub catch-block-at : ℕ → In 2 catch-block-kinds.ps
-catch-block-at t = and 2 catch-block-kinds.ps (is 2 catch-block-kinds.ps μ-catch-block t) catch-block-reads.Pre
+abbrev pub braced-at : ℕ → In 2 braced-kinds.ps
+braced-at t = and 2 braced-kinds.ps (is 2 braced-kinds.ps μ-braced t) braced-reads.Pre
 
-abbrev pub catch-block-below : ℕ → In 2 catch-block-kinds.ps
-catch-block-below t = and 2 catch-block-kinds.ps (falls 2 catch-block-kinds.ps _<_ μ-catch-block t) catch-block-reads.Pre
+abbrev pub braced-below : ℕ → In 2 braced-kinds.ps
+braced-below t = and 2 braced-kinds.ps (falls 2 braced-kinds.ps _<_ μ-braced t) braced-reads.Pre
 
 abbrev pub μ-else-block : Measures 2 else-block-kinds.ps ℕ
 μ-else-block κs a = 16 * (a .1 .1 .1 .1 .1 .0 + (length (a .0 .now) - a .1 .1 .1 .1 .0)) + 5

@@ -11,8 +11,8 @@ use Rattle.parser.proofs.statements.block_behind.Reads as block-behind-
 use Rattle.parser.proofs.statements.body.Reads as body-reads
 use Rattle.words.proofs.iterate.Reads as iterate-reads
 use Rattle.words.proofs.next_symbol_is.Reads as next-symbol-is-reads
-use Rattle.parser.proofs.statements.+at_keyword+block+block_behind+body+catch_block+else_block+finally_block+for_each+for_loop+function+if_statement+one_behind+open_body+statement+statements+try_statement+while_statement.Lts-body as lts
-use Rattle.parser.proofs.statements.+at_keyword+block+block_behind+body+catch_block+else_block+finally_block+for_each+for_loop+function+if_statement+one_behind+open_body+statement+statements+try_statement+while_statement.Proof.Measures.{body-at, block-behind-below}
+use Rattle.parser.proofs.statements.+at_keyword+block+block_behind+body+braced+else_block+finally_block+for_each+for_loop+function+if_statement+one_behind+open_body+statement+statements+try_statement+while_statement.Lts-body as lts
+use Rattle.parser.proofs.statements.+at_keyword+block+block_behind+body+braced+else_block+finally_block+for_each+for_loop+function+if_statement+one_behind+open_body+statement+statements+try_statement+while_statement.Proof.Measures.{body-at, block-behind-below}
 
 module _ (t : ℕ) where
   abbrev cs : lts.Claims

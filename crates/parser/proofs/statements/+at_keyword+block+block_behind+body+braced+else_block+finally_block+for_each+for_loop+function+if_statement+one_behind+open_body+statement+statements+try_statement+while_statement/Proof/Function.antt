@@ -24,8 +24,8 @@ use Rattle.words.proofs.iterate.Reads as iterate-reads
 use Rattle.parser.proofs.expressions.list_expr.Reads as list-expr-reads
 use Rattle.words.proofs.next_symbol_is.Reads as next-symbol-is-reads
 use Rattle.parser.proofs.part.put_row.Reads as put-row-reads
-use Rattle.parser.proofs.statements.+at_keyword+block+block_behind+body+catch_block+else_block+finally_block+for_each+for_loop+function+if_statement+one_behind+open_body+statement+statements+try_statement+while_statement.Lts-function as lts
-use Rattle.parser.proofs.statements.+at_keyword+block+block_behind+body+catch_block+else_block+finally_block+for_each+for_loop+function+if_statement+one_behind+open_body+statement+statements+try_statement+while_statement.Proof.Measures.{function-at, body-below}
+use Rattle.parser.proofs.statements.+at_keyword+block+block_behind+body+braced+else_block+finally_block+for_each+for_loop+function+if_statement+one_behind+open_body+statement+statements+try_statement+while_statement.Lts-function as lts
+use Rattle.parser.proofs.statements.+at_keyword+block+block_behind+body+braced+else_block+finally_block+for_each+for_loop+function+if_statement+one_behind+open_body+statement+statements+try_statement+while_statement.Proof.Measures.{function-at, body-below}
 
 -- The definition, one reading after another.
 module _ (ts : List ℕ) (expr : Rec) (stmt : Reader Trees) (name room : ℕ) {d : ℕ} (named : is ts name Identifier ≡ true) (met : next-is ts name SLParen ≡ true) (i : d ≡ step ts name) where

@@ -38,8 +38,8 @@ use Rattle.parser.proofs.simple.return_statement.Reads as return-statem
 use Rattle.parser.proofs.statements.try_statement.Reads as try-statement-reads
 use Rattle.parser.proofs.simple.var_statement.Reads as var-statement-reads
 use Rattle.parser.proofs.statements.while_statement.Reads as while-statement-reads
-use Rattle.parser.proofs.statements.+at_keyword+block+block_behind+body+catch_block+else_block+finally_block+for_each+for_loop+function+if_statement+one_behind+open_body+statement+statements+try_statement+while_statement.Lts-at_keyword as lts
-use Rattle.parser.proofs.statements.+at_keyword+block+block_behind+body+catch_block+else_block+finally_block+for_each+for_loop+function+if_statement+one_behind+open_body+statement+statements+try_statement+while_statement.Proof.Measures.{at-keyword-at, for-each-below, for-loop-below, function-below, if-statement-below, try-statement-below, while-statement-below}
+use Rattle.parser.proofs.statements.+at_keyword+block+block_behind+body+braced+else_block+finally_block+for_each+for_loop+function+if_statement+one_behind+open_body+statement+statements+try_statement+while_statement.Lts-at_keyword as lts
+use Rattle.parser.proofs.statements.+at_keyword+block+block_behind+body+braced+else_block+finally_block+for_each+for_loop+function+if_statement+one_behind+open_body+statement+statements+try_statement+while_statement.Proof.Measures.{at-keyword-at, for-each-below, for-loop-below, function-below, if-statement-below, try-statement-below, while-statement-below}
 
 -- The statements that go further, each by its keyword.
 module _ (ts : List ℕ) (expr : Rec) (stmt : Reader Trees) (at room : ℕ) where

@@ -16,12 +16,12 @@ use Rattle.parser.proofs.Answers.{at-once, taken, TakenOf, by-eq, Start
 use Rattle.parser.proofs.Bodies.{sign-then, braced-then}
 use Rattle.parser.proofs.Moves.{falls, fits-same, front-le, le-refl, ready-same, small}
 use Rattle.parser.proofs.simple.behind_sign.Reads as behind-sign-reads
-use Rattle.parser.proofs.statements.catch_block.Reads as catch-block-reads
+use Rattle.parser.proofs.statements.braced.Reads as braced-reads
 use Rattle.parser.proofs.statements.finally_block.Reads as finally-block-reads
 use Rattle.parser.proofs.part.put_row.Reads as put-row-reads
 use Rattle.parser.proofs.statements.try_statement.Reads as try-statement-reads
-use Rattle.parser.proofs.statements.+at_keyword+block+block_behind+body+catch_block+else_block+finally_block+for_each+for_loop+function+if_statement+one_behind+open_body+statement+statements+try_statement+while_statement.Lts-try_statement as lts
-use Rattle.parser.proofs.statements.+at_keyword+block+block_behind+body+catch_block+else_block+finally_block+for_each+for_loop+function+if_statement+one_behind+open_body+statement+statements+try_statement+while_statement.Proof.Measures.{try-statement-at, catch-block-below, finally-block-below}
+use Rattle.parser.proofs.statements.+at_keyword+block+block_behind+body+braced+else_block+finally_block+for_each+for_loop+function+if_statement+one_behind+open_body+statement+statements+try_statement+while_statement.Lts-try_statement as lts
+use Rattle.parser.proofs.statements.+at_keyword+block+block_behind+body+braced+else_block+finally_block+for_each+for_loop+function+if_statement+one_behind+open_body+statement+statements+try_statement+while_statement.Proof.Measures.{try-statement-at, braced-below, finally-block-below}
 
 -- The definition, one reading after another.
 module _ (ts : List ℕ) (expr : Rec) (stmt : Reader Trees) (start room : ℕ) where
@@ -51,22 +51,22 @@ module _ (ts : List ℕ) (expr : Rec) (stmt : Reader Trees) (start room : ℕ) w
 
 module _ (t : ℕ) where
   abbrev cs : lts.Claims
-  cs = (catch-block-below t, catch-block-reads.Post, behind-sign-reads.Asked, behind-sign-reads.Learnt, finally-block-below t, finally-block-reads.Post, put-row-reads.Asked, put-row-reads.Learnt)
+  cs = (braced-below t, braced-reads.Post, behind-sign-reads.Asked, behind-sign-reads.Learnt, finally-block-below t, finally-block-reads.Post, put-row-reads.Asked, put-row-reads.Learnt)
 
-  read-1 : (c : lts.After-r0 cs (try-statement-at t) try-statement-reads.Post) → TakenOf (c .before .before .before .before .catch-block .ensures .1 _ [] _ _ (at-once _ _ (c .before .before .before .before .before .before .before .before .pre .1 .within))) (c .r0 .given .1)
-  read-1 c = taken (c .before .before .before .before .catch-block .ensures .1 _ [] _ _ (at-once _ _ (c .before .before .before .before .before .before .before .before .pre .1 .within))) (c .r0 .given .1)
+  read-1 : (c : lts.After-r0 cs (try-statement-at t) try-statement-reads.Post) → TakenOf (c .before .before .before .before .braced .ensures .1 _ [] _ _ (at-once _ _ (c .before .before .before .before .before .before .before .before .pre .1 .within))) (c .r0 .given .1)
+  read-1 c = taken (c .before .before .before .before .braced .ensures .1 _ [] _ _ (at-once _ _ (c .before .before .before .before .before .before .before .before .pre .1 .within))) (c .r0 .given .1)
 
   read-2 : (c : lts.After-r1 cs (try-statement-at t) try-statement-reads.Post) → TakenOf (c .before .before .before .before .behind-sign .ensures .1 _ _ _ _ (read-1 (c .before .before .before .before .before .before .before) .stands)) (c .r1 .given .1)
   read-2 c = taken (c .before .before .before .before .behind-sign .ensures .1 _ _ _ _ (read-1 (c .before .before .before .before .before .before .before) .stands)) (c .r1 .given .1)
 
-  read-3 : (c : lts.After-r2 cs (try-statement-at t) try-statement-reads.Post) → TakenOf (c .before .before .before .before .catch-block2 .ensures .1 _ _ _ _ (read-2 (c .before .before .before .before .before .before .before) .stands)) (c .r2 .given .1)
-  read-3 c = taken (c .before .before .before .before .catch-block2 .ensures .1 _ _ _ _ (read-2 (c .before .before .before .before .before .before .before) .stands)) (c .r2 .given .1)
+  read-3 : (c : lts.After-r2 cs (try-statement-at t) try-statement-reads.Post) → TakenOf (c .before .before .before .before .braced2 .ensures .1 _ _ _ _ (read-2 (c .before .before .before .before .before .before .before) .stands)) (c .r2 .given .1)
+  read-3 c = taken (c .before .before .before .before .braced2 .ensures .1 _ _ _ _ (read-2 (c .before .before .before .before .before .before .before) .stands)) (c .r2 .given .1)
 
   read-4 : (c : lts.After-r3 cs (try-statement-at t) try-statement-reads.Post) → TakenOf (c .before .before .before .before .finally-block .ensures .1 _ _ _ _ (read-3 (c .before .before .before .before .before .before .before) .stands)) (c .r3 .given .1)
   read-4 c = taken (c .before .before .before .before .finally-block .ensures .1 _ _ _ _ (read-3 (c .before .before .before .before .before .before .before) .stands)) (c .r3 .given .1)
 
-  pub catch-block-requires : lts.Need-catch-block-requires cs (try-statement-at t) try-statement-reads.Post
-  catch-block-requires c κs = (falls _ _ _ _ _ _ _ (c .before .before .before .pre .0) (le-refl _) (lit< tt), (c .before .before .before .pre .1, omega arith))
+  pub braced-requires : lts.Need-braced-requires cs (try-statement-at t) try-statement-reads.Post
+  braced-requires c κs = (falls _ _ _ _ _ _ _ (c .before .before .before .pre .0) (le-refl _) (lit< tt), (c .before .before .before .pre .1, omega arith))
 
   pub enum-known-r0 : lts.Need-enum-known-r0 cs (try-statement-at t) try-statement-reads.Post
   enum-known-r0 c = c .match .keys1
@@ -75,13 +75,13 @@ module _ (t : ℕ) where
   enum-told c = c .match .keys2
 
   pub same-length : lts.Need-same-length cs (try-statement-at t) try-statement-reads.Post
-  same-length c = c .before .before .before .before .catch-block .kept .1 .0
+  same-length c = c .before .before .before .before .braced .kept .1 .0
 
   pub returns : lts.Need-returns cs (try-statement-at t) try-statement-reads.Post
-  returns c = pass-on (first (c .before .before .before .before .before .before .before .before .args .tokens .now) (expression (c .before .before .before .before .before .before .before .before .args .tokens .now) (c .before .before .before .before .before .before .before .before .args .less)) (statement (c .before .before .before .before .before .before .before .before .args .tokens .now) (c .before .before .before .before .before .before .before .before .args .less)) _ _) (c .before .before .before .before .catch-block .ensures .1 _ [] _ _ (at-once _ _ (c .before .before .before .before .before .before .before .before .pre .1 .within))) (c .enum-told .given .1)
+  returns c = pass-on (first (c .before .before .before .before .before .before .before .before .args .tokens .now) (expression (c .before .before .before .before .before .before .before .before .args .tokens .now) (c .before .before .before .before .before .before .before .before .args .less)) (statement (c .before .before .before .before .before .before .before .before .args .tokens .now) (c .before .before .before .before .before .before .before .before .args .less)) _ _) (c .before .before .before .before .braced .ensures .1 _ [] _ _ (at-once _ _ (c .before .before .before .before .before .before .before .before .pre .1 .within))) (c .enum-told .given .1)
 
   pub behind-sign-requires : lts.Need-behind-sign-requires cs (try-statement-at t) try-statement-reads.Post
-  behind-sign-requires c κs = (ready-same (c .before .before .before .before .before .before .before .before .before .before .pre .1) (c .before .before .before .before .before .before .catch-block .kept .1 .0) (read-1 (c .before .before) .stands .within), front-le (read-1 (c .before .before) .stands .front))
+  behind-sign-requires c κs = (ready-same (c .before .before .before .before .before .before .before .before .before .before .pre .1) (c .before .before .before .before .before .before .braced .kept .1 .0) (read-1 (c .before .before) .stands .within), front-le (read-1 (c .before .before) .stands .front))
 
   pub enum-known-r1 : lts.Need-enum-known-r1 cs (try-statement-at t) try-statement-reads.Post
   enum-known-r1 c = c .match2 .keys1
@@ -90,13 +90,13 @@ module _ (t : ℕ) where
   enum-told-2 c = c .match2 .keys2
 
   pub same-length-2 : lts.Need-same-length-2 cs (try-statement-at t) try-statement-reads.Post
-  same-length-2 c = c .before .before .before .before .behind-sign .kept .1 .0 ∙ c .before .before .before .before .before .before .before .before .before .before .before .catch-block .kept .1 .0
+  same-length-2 c = c .before .before .before .before .behind-sign .kept .1 .0 ∙ c .before .before .before .before .before .before .before .before .before .before .before .braced .kept .1 .0
 
   pub returns-2 : lts.Need-returns-2 cs (try-statement-at t) try-statement-reads.Post
   returns-2 c = pass-on (second (c .before .before .before .before .before .before .before .before .before .before .before .before .before .before .before .args .tokens .now) (expression (c .before .before .before .before .before .before .before .before .before .before .before .before .before .before .before .args .tokens .now) (c .before .before .before .before .before .before .before .before .before .before .before .before .before .before .before .args .less)) (statement (c .before .before .before .before .before .before .before .before .before .before .before .before .before .before .before .args .tokens .now) (c .before .before .before .before .before .before .before .before .before .before .before .before .before .before .before .args .less)) _ _ (read-1 (c .before .before .before .before .before .before .before) .eq)) (c .before .before .before .before .behind-sign .ensures .1 _ _ _ _ (read-1 (c .before .before .before .before .before .before .before) .stands)) (c .enum-told2 .given .1)
 
-  pub catch-block-requires-2 : lts.Need-catch-block-requires-2 cs (try-statement-at t) try-statement-reads.Post
-  catch-block-requires-2 c κs = (falls _ _ _ _ _ _ _ (c .before .before .before .before .before .before .before .before .before .before .before .before .before .before .before .before .before .pre .0) (read-2 (c .before .before) .stands .on) (lit< tt), (ready-same (c .before .before .before .before .before .before .before .before .before .before .before .before .before .before .before .before .before .pre .1) (c .before .before .before .before .before .before .behind-sign .kept .1 .0 ∙ c .before .before .before .before .before .before .before .before .before .before .before .before .before .catch-block .kept .1 .0) (read-2 (c .before .before) .stands .within), front-le (read-2 (c .before .before) .stands .front)))
+  pub braced-requires-2 : lts.Need-braced-requires-2 cs (try-statement-at t) try-statement-reads.Post
+  braced-requires-2 c κs = (falls _ _ _ _ _ _ _ (c .before .before .before .before .before .before .before .before .before .before .before .before .before .before .before .before .before .pre .0) (read-2 (c .before .before) .stands .on) (lit< tt), (ready-same (c .before .before .before .before .before .before .before .before .before .before .before .before .before .before .before .before .before .pre .1) (c .before .before .before .before .before .before .behind-sign .kept .1 .0 ∙ c .before .before .before .before .before .before .before .before .before .before .before .before .before .braced .kept .1 .0) (read-2 (c .before .before) .stands .within), front-le (read-2 (c .before .before) .stands .front)))
 
   pub enum-known-r2 : lts.Need-enum-known-r2 cs (try-statement-at t) try-statement-reads.Post
   enum-known-r2 c = c .match3 .keys1
@@ -105,14 +105,14 @@ module _ (t : ℕ) where
   enum-told-3 c = c .match3 .keys2
 
   pub same-length-3 : lts.Need-same-length-3 cs (try-statement-at t) try-statement-reads.Post
-  same-length-3 c = c .before .before .before .before .catch-block2 .kept .1 .0 ∙ c .before .before .before .before .before .before .before .before .before .before .before .behind-sign .kept .1 .0 ∙ c .before .before .before .before .before .before .before .before .before .before .before .before .before .before .before .before .before .before .catch-block .kept .1 .0
+  same-length-3 c = c .before .before .before .before .braced2 .kept .1 .0 ∙ c .before .before .before .before .before .before .before .before .before .before .before .behind-sign .kept .1 .0 ∙ c .before .before .before .before .before .before .before .before .before .before .before .before .before .before .before .before .before .before .braced .kept .1 .0
 
   pub returns-3 : lts.Need-returns-3 cs (try-statement-at t) try-statement-reads.Post
-  returns-3 c = pass-on (third (c .before .before .before .before .before .before .before .before .before .before .before .before .before .before .before .before .before .before .before .before .before .before .args .tokens .now) (expression (c .before .before .before .before .before .before .before .before .before .before .before .before .before .before .before .before .before .before .before .before .before .before .args .tokens .now) (c .before .before .before .before .before .before .before .before .before .before .before .before .before .before .before .before .before .before .before .before .before .before .args .less)) (statement (c .before .before .before .before .before .before .before .before .before .before .before .before .before .before .before .before .before .before .before .before .before .before .args .tokens .now) (c .before .before .before .before .before .before .before .before .before .before .before .before .before .before .before .before .before .before .before .before .before .before .args .less)) _ _ (read-1 (c .before .before .before .before .before .before .before .before .before .before .before .before .before .before) .eq) (read-2 (c .before .before .before .before .before .before .before) .eq)) (c .before .before .before .before .catch-block2 .ensures .1 _ _ _ _ (read-2 (c .before .before .before .before .before .before .before) .stands)) (c .enum-told3 .given .1)
+  returns-3 c = pass-on (third (c .before .before .before .before .before .before .before .before .before .before .before .before .before .before .before .before .before .before .before .before .before .before .args .tokens .now) (expression (c .before .before .before .before .before .before .before .before .before .before .before .before .before .before .before .before .before .before .before .before .before .before .args .tokens .now) (c .before .before .before .before .before .before .before .before .before .before .before .before .before .before .before .before .before .before .before .before .before .before .args .less)) (statement (c .before .before .before .before .before .before .before .before .before .before .before .before .before .before .before .before .before .before .before .before .before .before .args .tokens .now) (c .before .before .before .before .before .before .before .before .before .before .before .before .before .before .before .before .before .before .before .before .before .before .args .less)) _ _ (read-1 (c .before .before .before .before .before .before .before .before .before .before .before .before .before .before) .eq) (read-2 (c .before .before .before .before .before .before .before) .eq)) (c .before .before .before .before .braced2 .ensures .1 _ _ _ _ (read-2 (c .before .before .before .before .before .before .before) .stands)) (c .enum-told3 .given .1)
 
   pub finally-block-requires : lts.Need-finally-block-requires cs (try-statement-at t) try-statement-reads.Post
   finally-block-requires c κs =
-      (falls _ _ _ _ _ _ _ (c .before .before .before .before .before .before .before .before .before .before .before .before .before .before .before .before .before .before .before .before .before .before .before .before .pre .0) (read-3 (c .before .before) .stands .on) (lit< tt), (ready-same (c .before .before .before .before .before .before .before .before .before .before .before .before .before .before .before .before .before .before .before .before .before .before .before .before .pre .1) (c .before .before .before .before .before .before .catch-block2 .kept .1 .0 ∙ c .before .before .before .before .before .before .before .before .before .before .before .before .before .behind-sign .kept .1 .0 ∙ c .before .before .before .before .before .before .before .before .before .before .before .before .before .before .before .before .before .before .before .before .catch-block .kept .1 .0) (read-3 (c .before .before) .stands .within), front-le (read-3 (c .before .before) .stands .front)))
+      (falls _ _ _ _ _ _ _ (c .before .before .before .before .before .before .before .before .before .before .before .before .before .before .before .before .before .before .before .before .before .before .before .before .pre .0) (read-3 (c .before .before) .stands .on) (lit< tt), (ready-same (c .before .before .before .before .before .before .before .before .before .before .before .before .before .before .before .before .before .before .before .before .before .before .before .before .pre .1) (c .before .before .before .before .before .before .braced2 .kept .1 .0 ∙ c .before .before .before .before .before .before .before .before .before .before .before .before .before .behind-sign .kept .1 .0 ∙ c .before .before .before .before .before .before .before .before .before .before .before .before .before .before .before .before .before .before .before .before .braced .kept .1 .0) (read-3 (c .before .before) .stands .within), front-le (read-3 (c .before .before) .stands .front)))
 
   pub enum-known-r3 : lts.Need-enum-known-r3 cs (try-statement-at t) try-statement-reads.Post
   enum-known-r3 c = c .match4 .keys1
@@ -121,16 +121,16 @@ module _ (t : ℕ) where
   enum-told-4 c = c .match4 .keys2
 
   pub same-length-4 : lts.Need-same-length-4 cs (try-statement-at t) try-statement-reads.Post
-  same-length-4 c = c .before .before .before .before .finally-block .kept .1 .0 ∙ c .before .before .before .before .before .before .before .before .before .before .before .catch-block2 .kept .1 .0 ∙ c .before .before .before .before .before .before .before .before .before .before .before .before .before .before .before .before .before .before .behind-sign .kept .1 .0 ∙ c .before .before .before .before .before .before .before .before .before .before .before .before .before .before .before .before .before .before .before .before .before .before .before .before .before .catch-block .kept .1 .0
+  same-length-4 c = c .before .before .before .before .finally-block .kept .1 .0 ∙ c .before .before .before .before .before .before .before .before .before .before .before .braced2 .kept .1 .0 ∙ c .before .before .before .before .before .before .before .before .before .before .before .before .before .before .before .before .before .before .behind-sign .kept .1 .0 ∙ c .before .before .before .before .before .before .before .before .before .before .before .before .before .before .before .before .before .before .before .before .before .before .before .before .before .braced .kept .1 .0
 
   pub returns-4 : lts.Need-returns-4 cs (try-statement-at t) try-statement-reads.Post
   returns-4 c = pass-on (fourth (c .before .before .before .before .before .before .before .before .before .before .before .before .before .before .before .before .before .before .before .before .before .before .before .before .before .before .before .before .before .args .tokens .now) (expression (c .before .before .before .before .before .before .before .before .before .before .before .before .before .before .before .before .before .before .before .before .before .before .before .before .before .before .before .before .before .args .tokens .now) (c .before .before .before .before .before .before .before .before .before .before .before .before .before .before .before .before .before .before .before .before .before .before .before .before .before .before .before .before .before .args .less)) (statement (c .before .before .before .before .before .before .before .before .before .before .before .before .before .before .before .before .before .before .before .before .before .before .before .before .before .before .before .before .before .args .tokens .now) (c .before .before .before .before .before .before .before .before .before .before .before .before .before .before .before .before .before .before .before .before .before .before .before .before .before .before .before .before .before .args .less)) _ _ (read-1 (c .before .before .before .before .before .before .before .before .before .before .before .before .before .before .before .before .before .before .before .before .before) .eq) (read-2 (c .before .before .before .before .before .before .before .before .before .before .before .before .before .before) .eq) (read-3 (c .before .before .before .before .before .before .before) .eq)) (c .before .before .before .before .finally-block .ensures .1 _ _ _ _ (read-3 (c .before .before .before .before .before .before .before) .stands)) (c .enum-told4 .given .1)
 
   pub put-row-requires : lts.Need-put-row-requires cs (try-statement-at t) try-statement-reads.Post
-  put-row-requires c κs = (fits-same _ _ _ (c .before .before .before .before .before .before .before .before .before .before .before .before .before .before .before .before .before .before .before .before .before .before .before .before .before .before .before .before .before .before .before .pre .1 .fits) (c .before .before .before .before .before .before .finally-block .kept .1 .0 ∙ c .before .before .before .before .before .before .before .before .before .before .before .before .before .catch-block2 .kept .1 .0 ∙ c .before .before .before .before .before .before .before .before .before .before .before .before .before .before .before .before .before .before .before .before .behind-sign .kept .1 .0 ∙ c .before .before .before .before .before .before .before .before .before .before .before .before .before .before .before .before .before .before .before .before .before .before .before .before .before .before .before .catch-block .kept .1 .0), small (c .before .before .before .before .before .before .before .before .before .before .before .before .before .before .before .before .before .before .before .before .before .before .before .before .before .before .before .before .before .before .before .pre .1))
+  put-row-requires c κs = (fits-same _ _ _ (c .before .before .before .before .before .before .before .before .before .before .before .before .before .before .before .before .before .before .before .before .before .before .before .before .before .before .before .before .before .before .before .pre .1 .fits) (c .before .before .before .before .before .before .finally-block .kept .1 .0 ∙ c .before .before .before .before .before .before .before .before .before .before .before .before .before .braced2 .kept .1 .0 ∙ c .before .before .before .before .before .before .before .before .before .before .before .before .before .before .before .before .before .before .before .before .behind-sign .kept .1 .0 ∙ c .before .before .before .before .before .before .before .before .before .before .before .before .before .before .before .before .before .before .before .before .before .before .before .before .before .before .before .braced .kept .1 .0), small (c .before .before .before .before .before .before .before .before .before .before .before .before .before .before .before .before .before .before .before .before .before .before .before .before .before .before .before .before .before .before .before .pre .1))
 
   pub same-length-5 : lts.Need-same-length-5 cs (try-statement-at t) try-statement-reads.Post
-  same-length-5 c = c .before .before .put-row .kept .0 ∙ c .before .before .before .before .before .before .before .before .before .finally-block .kept .1 .0 ∙ c .before .before .before .before .before .before .before .before .before .before .before .before .before .before .before .before .catch-block2 .kept .1 .0 ∙ c .before .before .before .before .before .before .before .before .before .before .before .before .before .before .before .before .before .before .before .before .before .before .before .behind-sign .kept .1 .0 ∙ c .before .before .before .before .before .before .before .before .before .before .before .before .before .before .before .before .before .before .before .before .before .before .before .before .before .before .before .before .before .before .catch-block .kept .1 .0
+  same-length-5 c = c .before .before .put-row .kept .0 ∙ c .before .before .before .before .before .before .before .before .before .finally-block .kept .1 .0 ∙ c .before .before .before .before .before .before .before .before .before .before .before .before .before .before .before .before .braced2 .kept .1 .0 ∙ c .before .before .before .before .before .before .before .before .before .before .before .before .before .before .before .before .before .before .before .before .before .before .before .behind-sign .kept .1 .0 ∙ c .before .before .before .before .before .before .before .before .before .before .before .before .before .before .before .before .before .before .before .before .before .before .before .before .before .before .before .before .before .before .braced .kept .1 .0
 
   pub returns-5 : lts.Need-returns-5 cs (try-statement-at t) try-statement-reads.Post
   returns-5 c =

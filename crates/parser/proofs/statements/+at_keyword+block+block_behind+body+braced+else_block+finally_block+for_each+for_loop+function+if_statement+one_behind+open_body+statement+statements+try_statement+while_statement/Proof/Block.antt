@@ -21,8 +21,8 @@ use Rattle.words.proofs.next_symbol_is.Reads as next-symbol-is-reads
 use Rattle.parser.proofs.part.put_row.Reads as put-row-reads
 use Rattle.parser.proofs.statements.statement.Reads as statement-reads
 use Rattle.parser.proofs.statements.statements.Reads as statements-reads
-use Rattle.parser.proofs.statements.+at_keyword+block+block_behind+body+catch_block+else_block+finally_block+for_each+for_loop+function+if_statement+one_behind+open_body+statement+statements+try_statement+while_statement.Lts-block as lts
-use Rattle.parser.proofs.statements.+at_keyword+block+block_behind+body+catch_block+else_block+finally_block+for_each+for_loop+function+if_statement+one_behind+open_body+statement+statements+try_statement+while_statement.Proof.Measures.{block-at, statement-below, statements-below}
+use Rattle.parser.proofs.statements.+at_keyword+block+block_behind+body+braced+else_block+finally_block+for_each+for_loop+function+if_statement+one_behind+open_body+statement+statements+try_statement+while_statement.Lts-block as lts
+use Rattle.parser.proofs.statements.+at_keyword+block+block_behind+body+braced+else_block+finally_block+for_each+for_loop+function+if_statement+one_behind+open_body+statement+statements+try_statement+while_statement.Proof.Measures.{block-at, statement-below, statements-below}
 
 -- The definition, one reading after another.
 module _ (ts : List ℕ) (expr : Rec) (stmt : Reader Trees) (start room : ℕ) {c d : ℕ} (i : c ≡ step ts start) (some : next-is ts c SRBrace ≡ false) (j : d ≡ step ts c) where

@@ -3,7 +3,7 @@ mod AtKeyword
 mod Block
 mod BlockBehind
 mod Body
-mod CatchBlock
+mod Braced
 mod ElseBlock
 mod FinallyBlock
 mod ForEach
@@ -25,12 +25,13 @@ use Rattle.parser.proofs.simple.behind_sign.Reads as behind-sign-reads
 use Rattle.parser.proofs.statements.block_behind.Reads as block-behind-reads
 use Rattle.parser.proofs.statements.block.Reads as block-reads
 use Rattle.parser.proofs.statements.body.Reads as body-reads
-use Rattle.parser.proofs.statements.catch_block.Reads as catch-block-reads
+use Rattle.parser.proofs.statements.braced.Reads as braced-reads
 use Rattle.parser.proofs.simple.const_statement.Reads as const-statement-reads
 use Rattle.words.proofs.current_is.Reads as current-is-reads
 use Rattle.words.proofs.current.Reads as current-reads
 use Rattle.words.proofs.current_symbol_is.Reads as current-symbol-is-reads
 use Rattle.parser.proofs.statements.else_block.Reads as else-block-reads
+use Rattle.rows.proofs.end.Reads as end-reads
 use Rattle.parser.proofs.expressions.expression.Reads as expression-reads
 use Rattle.parser.proofs.statements.finally_block.Reads as finally-block-reads
 use Rattle.parser.proofs.part.first_of.Reads as first-of-reads
@@ -54,63 +55,63 @@ use Rattle.parser.proofs.statements.statements.Reads as statements-read
 use Rattle.parser.proofs.statements.try_statement.Reads as try-statement-reads
 use Rattle.parser.proofs.simple.var_statement.Reads as var-statement-reads
 use Rattle.parser.proofs.statements.while_statement.Reads as while-statement-reads
-use Rattle.parser.proofs.statements.+at_keyword+block+block_behind+body+catch_block+else_block+finally_block+for_each+for_loop+function+if_statement+one_behind+open_body+statement+statements+try_statement+while_statement.Lts-at_keyword as at-keyword-lts
-use Rattle.parser.proofs.statements.+at_keyword+block+block_behind+body+catch_block+else_block+finally_block+for_each+for_loop+function+if_statement+one_behind+open_body+statement+statements+try_statement+while_statement.Proof.AtKeyword as at-keyword-needs
-use Rattle.parser.proofs.statements.+at_keyword+block+block_behind+body+catch_block+else_block+finally_block+for_each+for_loop+function+if_statement+one_behind+open_body+statement+statements+try_statement+while_statement.Proof.Measures.{μ-at-keyword, at-keyword-at, at-keyword-below}
-use Rattle.parser.proofs.statements.+at_keyword+block+block_behind+body+catch_block+else_block+finally_block+for_each+for_loop+function+if_statement+one_behind+open_body+statement+statements+try_statement+while_statement.Lts-block as block-lts
-use Rattle.parser.proofs.statements.+at_keyword+block+block_behind+body+catch_block+else_block+finally_block+for_each+for_loop+function+if_statement+one_behind+open_body+statement+statements+try_statement+while_statement.Proof.Block as block-needs
-use Rattle.parser.proofs.statements.+at_keyword+block+block_behind+body+catch_block+else_block+finally_block+for_each+for_loop+function+if_statement+one_behind+open_body+statement+statements+try_statement+while_statement.Proof.Measures.{μ-block, block-at, block-below}
-use Rattle.parser.proofs.statements.+at_keyword+block+block_behind+body+catch_block+else_block+finally_block+for_each+for_loop+function+if_statement+one_behind+open_body+statement+statements+try_statement+while_statement.Lts-block_behind as block-behind-lts
-use Rattle.parser.proofs.statements.+at_keyword+block+block_behind+body+catch_block+else_block+finally_block+for_each+for_loop+function+if_statement+one_behind+open_body+statement+statements+try_statement+while_statement.Proof.BlockBehind as block-behind-needs
-use Rattle.parser.proofs.statements.+at_keyword+block+block_behind+body+catch_block+else_block+finally_block+for_each+for_loop+function+if_statement+one_behind+open_body+statement+statements+try_statement+while_statement.Proof.Measures.{μ-block-behind, block-behind-at, block-behind-below}
-use Rattle.parser.proofs.statements.+at_keyword+block+block_behind+body+catch_block+else_block+finally_block+for_each+for_loop+function+if_statement+one_behind+open_body+statement+statements+try_statement+while_statement.Lts-body as body-lts
-use Rattle.parser.proofs.statements.+at_keyword+block+block_behind+body+catch_block+else_block+finally_block+for_each+for_loop+function+if_statement+one_behind+open_body+statement+statements+try_statement+while_statement.Proof.Body as body-needs
-use Rattle.parser.proofs.statements.+at_keyword+block+block_behind+body+catch_block+else_block+finally_block+for_each+for_loop+function+if_statement+one_behind+open_body+statement+statements+try_statement+while_statement.Proof.Measures.{μ-body, body-at, body-below}
-use Rattle.parser.proofs.statements.+at_keyword+block+block_behind+body+catch_block+else_block+finally_block+for_each+for_loop+function+if_statement+one_behind+open_body+statement+statements+try_statement+while_statement.Lts-catch_block as catch-block-lts
-use Rattle.parser.proofs.statements.+at_keyword+block+block_behind+body+catch_block+else_block+finally_block+for_each+for_loop+function+if_statement+one_behind+open_body+statement+statements+try_statement+while_statement.Proof.CatchBlock as catch-block-needs
-use Rattle.parser.proofs.statements.+at_keyword+block+block_behind+body+catch_block+else_block+finally_block+for_each+for_loop+function+if_statement+one_behind+open_body+statement+statements+try_statement+while_statement.Proof.Measures.{μ-catch-block, catch-block-at, catch-block-below}
-use Rattle.parser.proofs.statements.+at_keyword+block+block_behind+body+catch_block+else_block+finally_block+for_each+for_loop+function+if_statement+one_behind+open_body+statement+statements+try_statement+while_statement.Lts-else_block as else-block-lts
-use Rattle.parser.proofs.statements.+at_keyword+block+block_behind+body+catch_block+else_block+finally_block+for_each+for_loop+function+if_statement+one_behind+open_body+statement+statements+try_statement+while_statement.Proof.ElseBlock as else-block-needs
-use Rattle.parser.proofs.statements.+at_keyword+block+block_behind+body+catch_block+else_block+finally_block+for_each+for_loop+function+if_statement+one_behind+open_body+statement+statements+try_statement+while_statement.Proof.Measures.{μ-else-block, else-block-at, else-block-below}
-use Rattle.parser.proofs.statements.+at_keyword+block+block_behind+body+catch_block+else_block+finally_block+for_each+for_loop+function+if_statement+one_behind+open_body+statement+statements+try_statement+while_statement.Lts-finally_block as finally-block-lts
-use Rattle.parser.proofs.statements.+at_keyword+block+block_behind+body+catch_block+else_block+finally_block+for_each+for_loop+function+if_statement+one_behind+open_body+statement+statements+try_statement+while_statement.Proof.FinallyBlock as finally-block-needs
-use Rattle.parser.proofs.statements.+at_keyword+block+block_behind+body+catch_block+else_block+finally_block+for_each+for_loop+function+if_statement+one_behind+open_body+statement+statements+try_statement+while_statement.Proof.Measures.{μ-finally-block, finally-block-at, finally-block-below}
-use Rattle.parser.proofs.statements.+at_keyword+block+block_behind+body+catch_block+else_block+finally_block+for_each+for_loop+function+if_statement+one_behind+open_body+statement+statements+try_statement+while_statement.Lts-for_each as for-each-lts
-use Rattle.parser.proofs.statements.+at_keyword+block+block_behind+body+catch_block+else_block+finally_block+for_each+for_loop+function+if_statement+one_behind+open_body+statement+statements+try_statement+while_statement.Proof.ForEach as for-each-needs
-use Rattle.parser.proofs.statements.+at_keyword+block+block_behind+body+catch_block+else_block+finally_block+for_each+for_loop+function+if_statement+one_behind+open_body+statement+statements+try_statement+while_statement.Proof.Measures.{μ-for-each, for-each-at, for-each-below}
-use Rattle.parser.proofs.statements.+at_keyword+block+block_behind+body+catch_block+else_block+finally_block+for_each+for_loop+function+if_statement+one_behind+open_body+statement+statements+try_statement+while_statement.Lts-for_loop as for-loop-lts
-use Rattle.parser.proofs.statements.+at_keyword+block+block_behind+body+catch_block+else_block+finally_block+for_each+for_loop+function+if_statement+one_behind+open_body+statement+statements+try_statement+while_statement.Proof.ForLoop as for-loop-needs
-use Rattle.parser.proofs.statements.+at_keyword+block+block_behind+body+catch_block+else_block+finally_block+for_each+for_loop+function+if_statement+one_behind+open_body+statement+statements+try_statement+while_statement.Proof.Measures.{μ-for-loop, for-loop-at, for-loop-below}
-use Rattle.parser.proofs.statements.+at_keyword+block+block_behind+body+catch_block+else_block+finally_block+for_each+for_loop+function+if_statement+one_behind+open_body+statement+statements+try_statement+while_statement.Lts-function as function-lts
-use Rattle.parser.proofs.statements.+at_keyword+block+block_behind+body+catch_block+else_block+finally_block+for_each+for_loop+function+if_statement+one_behind+open_body+statement+statements+try_statement+while_statement.Proof.Function as function-needs
-use Rattle.parser.proofs.statements.+at_keyword+block+block_behind+body+catch_block+else_block+finally_block+for_each+for_loop+function+if_statement+one_behind+open_body+statement+statements+try_statement+while_statement.Proof.Measures.{μ-function, function-at, function-below}
-use Rattle.parser.proofs.statements.+at_keyword+block+block_behind+body+catch_block+else_block+finally_block+for_each+for_loop+function+if_statement+one_behind+open_body+statement+statements+try_statement+while_statement.Lts-if_statement as if-statement-lts
-use Rattle.parser.proofs.statements.+at_keyword+block+block_behind+body+catch_block+else_block+finally_block+for_each+for_loop+function+if_statement+one_behind+open_body+statement+statements+try_statement+while_statement.Proof.IfStatement as if-statement-needs
-use Rattle.parser.proofs.statements.+at_keyword+block+block_behind+body+catch_block+else_block+finally_block+for_each+for_loop+function+if_statement+one_behind+open_body+statement+statements+try_statement+while_statement.Proof.Measures.{μ-if-statement, if-statement-at, if-statement-below}
-use Rattle.parser.proofs.statements.+at_keyword+block+block_behind+body+catch_block+else_block+finally_block+for_each+for_loop+function+if_statement+one_behind+open_body+statement+statements+try_statement+while_statement.Lts-one_behind as one-behind-lts
-use Rattle.parser.proofs.statements.+at_keyword+block+block_behind+body+catch_block+else_block+finally_block+for_each+for_loop+function+if_statement+one_behind+open_body+statement+statements+try_statement+while_statement.Proof.OneBehind as one-behind-needs
-use Rattle.parser.proofs.statements.+at_keyword+block+block_behind+body+catch_block+else_block+finally_block+for_each+for_loop+function+if_statement+one_behind+open_body+statement+statements+try_statement+while_statement.Proof.Measures.{μ-one-behind, one-behind-at, one-behind-below}
-use Rattle.parser.proofs.statements.+at_keyword+block+block_behind+body+catch_block+else_block+finally_block+for_each+for_loop+function+if_statement+one_behind+open_body+statement+statements+try_statement+while_statement.Lts-open_body as open-body-lts
-use Rattle.parser.proofs.statements.+at_keyword+block+block_behind+body+catch_block+else_block+finally_block+for_each+for_loop+function+if_statement+one_behind+open_body+statement+statements+try_statement+while_statement.Proof.OpenBody as open-body-needs
-use Rattle.parser.proofs.statements.+at_keyword+block+block_behind+body+catch_block+else_block+finally_block+for_each+for_loop+function+if_statement+one_behind+open_body+statement+statements+try_statement+while_statement.Proof.Measures.{μ-open-body, open-body-at, open-body-below}
-use Rattle.parser.proofs.statements.+at_keyword+block+block_behind+body+catch_block+else_block+finally_block+for_each+for_loop+function+if_statement+one_behind+open_body+statement+statements+try_statement+while_statement.Lts-statement as statement-lts
-use Rattle.parser.proofs.statements.+at_keyword+block+block_behind+body+catch_block+else_block+finally_block+for_each+for_loop+function+if_statement+one_behind+open_body+statement+statements+try_statement+while_statement.Proof.Statement as statement-needs
-use Rattle.parser.proofs.statements.+at_keyword+block+block_behind+body+catch_block+else_block+finally_block+for_each+for_loop+function+if_statement+one_behind+open_body+statement+statements+try_statement+while_statement.Proof.Measures.{μ-statement, statement-at, statement-below}
-use Rattle.parser.proofs.statements.+at_keyword+block+block_behind+body+catch_block+else_block+finally_block+for_each+for_loop+function+if_statement+one_behind+open_body+statement+statements+try_statement+while_statement.Lts-statements as statements-lts
-use Rattle.parser.proofs.statements.+at_keyword+block+block_behind+body+catch_block+else_block+finally_block+for_each+for_loop+function+if_statement+one_behind+open_body+statement+statements+try_statement+while_statement.Proof.Statements as statements-needs
-use Rattle.parser.proofs.statements.+at_keyword+block+block_behind+body+catch_block+else_block+finally_block+for_each+for_loop+function+if_statement+one_behind+open_body+statement+statements+try_statement+while_statement.Proof.Measures.{μ-statements, statements-at, statements-below}
-use Rattle.parser.proofs.statements.+at_keyword+block+block_behind+body+catch_block+else_block+finally_block+for_each+for_loop+function+if_statement+one_behind+open_body+statement+statements+try_statement+while_statement.Lts-try_statement as try-statement-lts
-use Rattle.parser.proofs.statements.+at_keyword+block+block_behind+body+catch_block+else_block+finally_block+for_each+for_loop+function+if_statement+one_behind+open_body+statement+statements+try_statement+while_statement.Proof.TryStatement as try-statement-needs
-use Rattle.parser.proofs.statements.+at_keyword+block+block_behind+body+catch_block+else_block+finally_block+for_each+for_loop+function+if_statement+one_behind+open_body+statement+statements+try_statement+while_statement.Proof.Measures.{μ-try-statement, try-statement-at, try-statement-below}
-use Rattle.parser.proofs.statements.+at_keyword+block+block_behind+body+catch_block+else_block+finally_block+for_each+for_loop+function+if_statement+one_behind+open_body+statement+statements+try_statement+while_statement.Lts-while_statement as while-statement-lts
-use Rattle.parser.proofs.statements.+at_keyword+block+block_behind+body+catch_block+else_block+finally_block+for_each+for_loop+function+if_statement+one_behind+open_body+statement+statements+try_statement+while_statement.Proof.WhileStatement as while-statement-needs
-use Rattle.parser.proofs.statements.+at_keyword+block+block_behind+body+catch_block+else_block+finally_block+for_each+for_loop+function+if_statement+one_behind+open_body+statement+statements+try_statement+while_statement.Proof.Measures.{μ-while-statement, while-statement-at, while-statement-below}
-use Rattle.parser.proofs.statements.+at_keyword+block+block_behind+body+catch_block+else_block+finally_block+for_each+for_loop+function+if_statement+one_behind+open_body+statement+statements+try_statement+while_statement.{statement}
-use Rattle.parser.proofs.statements.+at_keyword+block+block_behind+body+catch_block+else_block+finally_block+for_each+for_loop+function+if_statement+one_behind+open_body+statement+statements+try_statement+while_statement.Tie.{close}
+use Rattle.parser.proofs.statements.+at_keyword+block+block_behind+body+braced+else_block+finally_block+for_each+for_loop+function+if_statement+one_behind+open_body+statement+statements+try_statement+while_statement.Lts-at_keyword as at-keyword-lts
+use Rattle.parser.proofs.statements.+at_keyword+block+block_behind+body+braced+else_block+finally_block+for_each+for_loop+function+if_statement+one_behind+open_body+statement+statements+try_statement+while_statement.Proof.AtKeyword as at-keyword-needs
+use Rattle.parser.proofs.statements.+at_keyword+block+block_behind+body+braced+else_block+finally_block+for_each+for_loop+function+if_statement+one_behind+open_body+statement+statements+try_statement+while_statement.Proof.Measures.{μ-at-keyword, at-keyword-at, at-keyword-below}
+use Rattle.parser.proofs.statements.+at_keyword+block+block_behind+body+braced+else_block+finally_block+for_each+for_loop+function+if_statement+one_behind+open_body+statement+statements+try_statement+while_statement.Lts-block as block-lts
+use Rattle.parser.proofs.statements.+at_keyword+block+block_behind+body+braced+else_block+finally_block+for_each+for_loop+function+if_statement+one_behind+open_body+statement+statements+try_statement+while_statement.Proof.Block as block-needs
+use Rattle.parser.proofs.statements.+at_keyword+block+block_behind+body+braced+else_block+finally_block+for_each+for_loop+function+if_statement+one_behind+open_body+statement+statements+try_statement+while_statement.Proof.Measures.{μ-block, block-at, block-below}
+use Rattle.parser.proofs.statements.+at_keyword+block+block_behind+body+braced+else_block+finally_block+for_each+for_loop+function+if_statement+one_behind+open_body+statement+statements+try_statement+while_statement.Lts-block_behind as block-behind-lts
+use Rattle.parser.proofs.statements.+at_keyword+block+block_behind+body+braced+else_block+finally_block+for_each+for_loop+function+if_statement+one_behind+open_body+statement+statements+try_statement+while_statement.Proof.BlockBehind as block-behind-needs
+use Rattle.parser.proofs.statements.+at_keyword+block+block_behind+body+braced+else_block+finally_block+for_each+for_loop+function+if_statement+one_behind+open_body+statement+statements+try_statement+while_statement.Proof.Measures.{μ-block-behind, block-behind-at, block-behind-below}
+use Rattle.parser.proofs.statements.+at_keyword+block+block_behind+body+braced+else_block+finally_block+for_each+for_loop+function+if_statement+one_behind+open_body+statement+statements+try_statement+while_statement.Lts-body as body-lts
+use Rattle.parser.proofs.statements.+at_keyword+block+block_behind+body+braced+else_block+finally_block+for_each+for_loop+function+if_statement+one_behind+open_body+statement+statements+try_statement+while_statement.Proof.Body as body-needs
+use Rattle.parser.proofs.statements.+at_keyword+block+block_behind+body+braced+else_block+finally_block+for_each+for_loop+function+if_statement+one_behind+open_body+statement+statements+try_statement+while_statement.Proof.Measures.{μ-body, body-at, body-below}
+use Rattle.parser.proofs.statements.+at_keyword+block+block_behind+body+braced+else_block+finally_block+for_each+for_loop+function+if_statement+one_behind+open_body+statement+statements+try_statement+while_statement.Lts-braced as braced-lts
+use Rattle.parser.proofs.statements.+at_keyword+block+block_behind+body+braced+else_block+finally_block+for_each+for_loop+function+if_statement+one_behind+open_body+statement+statements+try_statement+while_statement.Proof.Braced as braced-needs
+use Rattle.parser.proofs.statements.+at_keyword+block+block_behind+body+braced+else_block+finally_block+for_each+for_loop+function+if_statement+one_behind+open_body+statement+statements+try_statement+while_statement.Proof.Measures.{μ-braced, braced-at, braced-below}
+use Rattle.parser.proofs.statements.+at_keyword+block+block_behind+body+braced+else_block+finally_block+for_each+for_loop+function+if_statement+one_behind+open_body+statement+statements+try_statement+while_statement.Lts-else_block as else-block-lts
+use Rattle.parser.proofs.statements.+at_keyword+block+block_behind+body+braced+else_block+finally_block+for_each+for_loop+function+if_statement+one_behind+open_body+statement+statements+try_statement+while_statement.Proof.ElseBlock as else-block-needs
+use Rattle.parser.proofs.statements.+at_keyword+block+block_behind+body+braced+else_block+finally_block+for_each+for_loop+function+if_statement+one_behind+open_body+statement+statements+try_statement+while_statement.Proof.Measures.{μ-else-block, else-block-at, else-block-below}
+use Rattle.parser.proofs.statements.+at_keyword+block+block_behind+body+braced+else_block+finally_block+for_each+for_loop+function+if_statement+one_behind+open_body+statement+statements+try_statement+while_statement.Lts-finally_block as finally-block-lts
+use Rattle.parser.proofs.statements.+at_keyword+block+block_behind+body+braced+else_block+finally_block+for_each+for_loop+function+if_statement+one_behind+open_body+statement+statements+try_statement+while_statement.Proof.FinallyBlock as finally-block-needs
+use Rattle.parser.proofs.statements.+at_keyword+block+block_behind+body+braced+else_block+finally_block+for_each+for_loop+function+if_statement+one_behind+open_body+statement+statements+try_statement+while_statement.Proof.Measures.{μ-finally-block, finally-block-at, finally-block-below}
+use Rattle.parser.proofs.statements.+at_keyword+block+block_behind+body+braced+else_block+finally_block+for_each+for_loop+function+if_statement+one_behind+open_body+statement+statements+try_statement+while_statement.Lts-for_each as for-each-lts
+use Rattle.parser.proofs.statements.+at_keyword+block+block_behind+body+braced+else_block+finally_block+for_each+for_loop+function+if_statement+one_behind+open_body+statement+statements+try_statement+while_statement.Proof.ForEach as for-each-needs
+use Rattle.parser.proofs.statements.+at_keyword+block+block_behind+body+braced+else_block+finally_block+for_each+for_loop+function+if_statement+one_behind+open_body+statement+statements+try_statement+while_statement.Proof.Measures.{μ-for-each, for-each-at, for-each-below}
+use Rattle.parser.proofs.statements.+at_keyword+block+block_behind+body+braced+else_block+finally_block+for_each+for_loop+function+if_statement+one_behind+open_body+statement+statements+try_statement+while_statement.Lts-for_loop as for-loop-lts
+use Rattle.parser.proofs.statements.+at_keyword+block+block_behind+body+braced+else_block+finally_block+for_each+for_loop+function+if_statement+one_behind+open_body+statement+statements+try_statement+while_statement.Proof.ForLoop as for-loop-needs
+use Rattle.parser.proofs.statements.+at_keyword+block+block_behind+body+braced+else_block+finally_block+for_each+for_loop+function+if_statement+one_behind+open_body+statement+statements+try_statement+while_statement.Proof.Measures.{μ-for-loop, for-loop-at, for-loop-below}
+use Rattle.parser.proofs.statements.+at_keyword+block+block_behind+body+braced+else_block+finally_block+for_each+for_loop+function+if_statement+one_behind+open_body+statement+statements+try_statement+while_statement.Lts-function as function-lts
+use Rattle.parser.proofs.statements.+at_keyword+block+block_behind+body+braced+else_block+finally_block+for_each+for_loop+function+if_statement+one_behind+open_body+statement+statements+try_statement+while_statement.Proof.Function as function-needs
+use Rattle.parser.proofs.statements.+at_keyword+block+block_behind+body+braced+else_block+finally_block+for_each+for_loop+function+if_statement+one_behind+open_body+statement+statements+try_statement+while_statement.Proof.Measures.{μ-function, function-at, function-below}
+use Rattle.parser.proofs.statements.+at_keyword+block+block_behind+body+braced+else_block+finally_block+for_each+for_loop+function+if_statement+one_behind+open_body+statement+statements+try_statement+while_statement.Lts-if_statement as if-statement-lts
+use Rattle.parser.proofs.statements.+at_keyword+block+block_behind+body+braced+else_block+finally_block+for_each+for_loop+function+if_statement+one_behind+open_body+statement+statements+try_statement+while_statement.Proof.IfStatement as if-statement-needs
+use Rattle.parser.proofs.statements.+at_keyword+block+block_behind+body+braced+else_block+finally_block+for_each+for_loop+function+if_statement+one_behind+open_body+statement+statements+try_statement+while_statement.Proof.Measures.{μ-if-statement, if-statement-at, if-statement-below}
+use Rattle.parser.proofs.statements.+at_keyword+block+block_behind+body+braced+else_block+finally_block+for_each+for_loop+function+if_statement+one_behind+open_body+statement+statements+try_statement+while_statement.Lts-one_behind as one-behind-lts
+use Rattle.parser.proofs.statements.+at_keyword+block+block_behind+body+braced+else_block+finally_block+for_each+for_loop+function+if_statement+one_behind+open_body+statement+statements+try_statement+while_statement.Proof.OneBehind as one-behind-needs
+use Rattle.parser.proofs.statements.+at_keyword+block+block_behind+body+braced+else_block+finally_block+for_each+for_loop+function+if_statement+one_behind+open_body+statement+statements+try_statement+while_statement.Proof.Measures.{μ-one-behind, one-behind-at, one-behind-below}
+use Rattle.parser.proofs.statements.+at_keyword+block+block_behind+body+braced+else_block+finally_block+for_each+for_loop+function+if_statement+one_behind+open_body+statement+statements+try_statement+while_statement.Lts-open_body as open-body-lts
+use Rattle.parser.proofs.statements.+at_keyword+block+block_behind+body+braced+else_block+finally_block+for_each+for_loop+function+if_statement+one_behind+open_body+statement+statements+try_statement+while_statement.Proof.OpenBody as open-body-needs
+use Rattle.parser.proofs.statements.+at_keyword+block+block_behind+body+braced+else_block+finally_block+for_each+for_loop+function+if_statement+one_behind+open_body+statement+statements+try_statement+while_statement.Proof.Measures.{μ-open-body, open-body-at, open-body-below}
+use Rattle.parser.proofs.statements.+at_keyword+block+block_behind+body+braced+else_block+finally_block+for_each+for_loop+function+if_statement+one_behind+open_body+statement+statements+try_statement+while_statement.Lts-statement as statement-lts
+use Rattle.parser.proofs.statements.+at_keyword+block+block_behind+body+braced+else_block+finally_block+for_each+for_loop+function+if_statement+one_behind+open_body+statement+statements+try_statement+while_statement.Proof.Statement as statement-needs
+use Rattle.parser.proofs.statements.+at_keyword+block+block_behind+body+braced+else_block+finally_block+for_each+for_loop+function+if_statement+one_behind+open_body+statement+statements+try_statement+while_statement.Proof.Measures.{μ-statement, statement-at, statement-below}
+use Rattle.parser.proofs.statements.+at_keyword+block+block_behind+body+braced+else_block+finally_block+for_each+for_loop+function+if_statement+one_behind+open_body+statement+statements+try_statement+while_statement.Lts-statements as statements-lts
+use Rattle.parser.proofs.statements.+at_keyword+block+block_behind+body+braced+else_block+finally_block+for_each+for_loop+function+if_statement+one_behind+open_body+statement+statements+try_statement+while_statement.Proof.Statements as statements-needs
+use Rattle.parser.proofs.statements.+at_keyword+block+block_behind+body+braced+else_block+finally_block+for_each+for_loop+function+if_statement+one_behind+open_body+statement+statements+try_statement+while_statement.Proof.Measures.{μ-statements, statements-at, statements-below}
+use Rattle.parser.proofs.statements.+at_keyword+block+block_behind+body+braced+else_block+finally_block+for_each+for_loop+function+if_statement+one_behind+open_body+statement+statements+try_statement+while_statement.Lts-try_statement as try-statement-lts
+use Rattle.parser.proofs.statements.+at_keyword+block+block_behind+body+braced+else_block+finally_block+for_each+for_loop+function+if_statement+one_behind+open_body+statement+statements+try_statement+while_statement.Proof.TryStatement as try-statement-needs
+use Rattle.parser.proofs.statements.+at_keyword+block+block_behind+body+braced+else_block+finally_block+for_each+for_loop+function+if_statement+one_behind+open_body+statement+statements+try_statement+while_statement.Proof.Measures.{μ-try-statement, try-statement-at, try-statement-below}
+use Rattle.parser.proofs.statements.+at_keyword+block+block_behind+body+braced+else_block+finally_block+for_each+for_loop+function+if_statement+one_behind+open_body+statement+statements+try_statement+while_statement.Lts-while_statement as while-statement-lts
+use Rattle.parser.proofs.statements.+at_keyword+block+block_behind+body+braced+else_block+finally_block+for_each+for_loop+function+if_statement+one_behind+open_body+statement+statements+try_statement+while_statement.Proof.WhileStatement as while-statement-needs
+use Rattle.parser.proofs.statements.+at_keyword+block+block_behind+body+braced+else_block+finally_block+for_each+for_loop+function+if_statement+one_behind+open_body+statement+statements+try_statement+while_statement.Proof.Measures.{μ-while-statement, while-statement-at, while-statement-below}
+use Rattle.parser.proofs.statements.+at_keyword+block+block_behind+body+braced+else_block+finally_block+for_each+for_loop+function+if_statement+one_behind+open_body+statement+statements+try_statement+while_statement.{statement}
+use Rattle.parser.proofs.statements.+at_keyword+block+block_behind+body+braced+else_block+finally_block+for_each+for_loop+function+if_statement+one_behind+open_body+statement+statements+try_statement+while_statement.Tie.{close}
 
-pub +at-keyword+block+block-behind+body+catch-block+else-block+finally-block+for-each+for-loop+function+if-statement+one-behind+open-body+statement+statements+try-statement+while-statement-spec : {M : Type 1} → statement M
-+at-keyword+block+block-behind+body+catch-block+else-block+finally-block+for-each+for-loop+function+if-statement+one-behind+open-body+statement+statements+try-statement+while-statement-spec =
-    close μ-at-keyword μ-block μ-block-behind μ-body μ-catch-block μ-else-block μ-finally-block μ-for-each μ-for-loop μ-function μ-if-statement μ-one-behind μ-open-body μ-statement μ-statements μ-try-statement μ-while-statement
+pub +at-keyword+block+block-behind+body+braced+else-block+finally-block+for-each+for-loop+function+if-statement+one-behind+open-body+statement+statements+try-statement+while-statement-spec : {M : Type 1} → statement M
++at-keyword+block+block-behind+body+braced+else-block+finally-block+for-each+for-loop+function+if-statement+one-behind+open-body+statement+statements+try-statement+while-statement-spec =
+    close μ-at-keyword μ-block μ-block-behind μ-body μ-braced μ-else-block μ-finally-block μ-for-each μ-for-loop μ-function μ-if-statement μ-one-behind μ-open-body μ-statement μ-statements μ-try-statement μ-while-statement
     (λ t. at-keyword-lts.spec (iterate-reads.Asked, iterate-reads.Learnt, goes-further-reads.Asked, goes-further-reads.Learnt, next-symbol-is-reads.Asked, next-symbol-is-reads.Learnt, alone-reads.Asked, alone-reads.Learnt, var-statement-reads.Asked, var-statement-reads.Learnt, const-statement-reads.Asked, const-statement-reads.Learnt, if-statement-below t, if-statement-reads.Post, assert-statement-reads.Asked, assert-statement-reads.Learnt, while-statement-below t, while-statement-reads.Post, return-statement-reads.Asked, return-statement-reads.Learnt, function-below t, function-reads.Post, for-loop-below t, for-loop-reads.Post, around-reads.Asked, around-reads.Learnt, try-statement-below t, try-statement-reads.Post, for-each-below t, for-each-reads.Post) (at-keyword-at t) at-keyword-reads.Post
     (at-keyword-needs.iterate-requires t)
     (at-keyword-needs.goes-further-requires t)
@@ -192,8 +193,9 @@ pub +at-keyword+block+block-behind+body+catch-block+else-block+finally-block+for
     (block-needs.put-row-requires-2 t)
     (block-needs.same-length-4 t)
     (block-needs.returns-4 t))
-    (λ t. block-behind-lts.spec (block-below t, block-reads.Post) (block-behind-at t) block-behind-reads.Post
-    (block-behind-needs.mul-i t)
+    (λ t. block-behind-lts.spec (end-reads.Asked, end-reads.Learnt, block-below t, block-reads.Post) (block-behind-at t) block-behind-reads.Post
+    (block-behind-needs.cast-end t)
+    (block-behind-needs.end-requires t)
     (block-behind-needs.mul-block t)
     (block-behind-needs.sub-block t)
     (block-behind-needs.part-block-start t)
@@ -204,7 +206,7 @@ pub +at-keyword+block+block-behind+body+catch-block+else-block+finally-block+for
     (block-behind-needs.enum-told t)
     (block-behind-needs.same-length t)
     (block-behind-needs.returns t)
-    (block-behind-needs.add-t12 t)
+    (block-behind-needs.add-t13 t)
     (block-behind-needs.same-length-2 t)
     (block-behind-needs.returns-2 t))
     (λ t. body-lts.spec (next-symbol-is-reads.Asked, next-symbol-is-reads.Learnt, iterate-reads.Asked, iterate-reads.Learnt, block-behind-below t, block-behind-reads.Post) (body-at t) body-reads.Post
@@ -216,12 +218,12 @@ pub +at-keyword+block+block-behind+body+catch-block+else-block+finally-block+for
     (body-needs.block-behind-requires t)
     (body-needs.same-length t)
     (body-needs.returns-3 t))
-    (λ t. catch-block-lts.spec (next-symbol-is-reads.Asked, next-symbol-is-reads.Learnt, block-behind-below t, block-behind-reads.Post) (catch-block-at t) catch-block-reads.Post
-    (catch-block-needs.next-symbol-is-requires t)
-    (catch-block-needs.returns t)
-    (catch-block-needs.block-behind-requires t)
-    (catch-block-needs.same-length t)
-    (catch-block-needs.returns-2 t))
+    (λ t. braced-lts.spec (next-symbol-is-reads.Asked, next-symbol-is-reads.Learnt, block-behind-below t, block-behind-reads.Post) (braced-at t) braced-reads.Post
+    (braced-needs.next-symbol-is-requires t)
+    (braced-needs.returns t)
+    (braced-needs.block-behind-requires t)
+    (braced-needs.same-length t)
+    (braced-needs.returns-2 t))
     (λ t. else-block-lts.spec (next-keyword-is-reads.Asked, next-keyword-is-reads.Learnt, iterate-reads.Asked, iterate-reads.Learnt, next-symbol-is-reads.Asked, next-symbol-is-reads.Learnt, block-behind-below t, block-behind-reads.Post) (else-block-at t) else-block-reads.Post
     (else-block-needs.next-keyword-is-requires t)
     (else-block-needs.returns t)
@@ -325,8 +327,9 @@ pub +at-keyword+block+block-behind+body+catch-block+else-block+finally-block+for
     (if-statement-needs.put-row-requires t)
     (if-statement-needs.same-length-4 t)
     (if-statement-needs.returns-5 t))
-    (λ t. one-behind-lts.spec (statement-below t, statement-reads.Post) (one-behind-at t) one-behind-reads.Post
-    (one-behind-needs.mul-i t)
+    (λ t. one-behind-lts.spec (end-reads.Asked, end-reads.Learnt, statement-below t, statement-reads.Post) (one-behind-at t) one-behind-reads.Post
+    (one-behind-needs.cast-end t)
+    (one-behind-needs.end-requires t)
     (one-behind-needs.mul-statement t)
     (one-behind-needs.sub-statement t)
     (one-behind-needs.part-statement-start t)
@@ -337,7 +340,7 @@ pub +at-keyword+block+block-behind+body+catch-block+else-block+finally-block+for
     (one-behind-needs.enum-told t)
     (one-behind-needs.same-length t)
     (one-behind-needs.returns t)
-    (one-behind-needs.add-t12 t)
+    (one-behind-needs.add-t13 t)
     (one-behind-needs.same-length-2 t)
     (one-behind-needs.returns-2 t))
     (λ t. open-body-lts.spec (next-symbol-is-reads.Asked, next-symbol-is-reads.Learnt, iterate-reads.Asked, iterate-reads.Learnt, block-behind-below t, block-behind-reads.Post) (open-body-at t) open-body-reads.Post
@@ -379,8 +382,8 @@ pub +at-keyword+block+block-behind+body+catch-block+else-block+finally-block+for
     (statements-needs.loop-again-2 t)
     (statements-needs.same-length-2 t)
     (statements-needs.returns-2 t))
-    (λ t. try-statement-lts.spec (catch-block-below t, catch-block-reads.Post, behind-sign-reads.Asked, behind-sign-reads.Learnt, finally-block-below t, finally-block-reads.Post, put-row-reads.Asked, put-row-reads.Learnt) (try-statement-at t) try-statement-reads.Post
-    (try-statement-needs.catch-block-requires t)
+    (λ t. try-statement-lts.spec (braced-below t, braced-reads.Post, behind-sign-reads.Asked, behind-sign-reads.Learnt, finally-block-below t, finally-block-reads.Post, put-row-reads.Asked, put-row-reads.Learnt) (try-statement-at t) try-statement-reads.Post
+    (try-statement-needs.braced-requires t)
     (try-statement-needs.enum-known-r0 t)
     (try-statement-needs.enum-told t)
     (try-statement-needs.same-length t)
@@ -390,7 +393,7 @@ pub +at-keyword+block+block-behind+body+catch-block+else-block+finally-block+for
     (try-statement-needs.enum-told-2 t)
     (try-statement-needs.same-length-2 t)
     (try-statement-needs.returns-2 t)
-    (try-statement-needs.catch-block-requires-2 t)
+    (try-statement-needs.braced-requires-2 t)
     (try-statement-needs.enum-known-r2 t)
     (try-statement-needs.enum-told-3 t)
     (try-statement-needs.same-length-3 t)
