@@ -47,7 +47,9 @@ class Parts(unittest.TestCase):
         self.assertIn("case 7 differs: X", told)
 
     def test_a_status_alone_is_noticed(self):
-        self.assertFalse(part(record=f"cat; echo '{SAID}' >&2; exit 1")[2])
+        found, _, right = part(record=f"cat; echo '{SAID}' >&2; exit 1")
+        self.assertFalse(right)
+        self.assertEqual(sum(found.values()), 0)
 
     def test_a_case_that_differs_or_lacks_is_noticed(self):
         self.assertFalse(part(replay="cat >/dev/null; echo '9 replayed, 1 differing, 0 skipped'")[2])
