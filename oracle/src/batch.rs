@@ -45,7 +45,7 @@ impl Answer {
 
     /// The used rows, each on its own.
     pub fn row_arrays(&self) -> Vec<Row> {
-        self.rows.chunks(ROW).map(|row| row.try_into().expect("a row has eight words")).collect()
+        self.rows.chunks(ROW).map(|row| row.try_into().expect("a chunk is a row")).collect()
     }
 }
 
@@ -137,7 +137,7 @@ pub fn read_answer(from: &mut impl Read) -> io::Result<Option<Answer>> {
     let head = fulls(&head);
     let words = [head[0], head[1], head[2], head[3]];
     if used_words(&words) > MOST_ROWS * ROW {
-        return Err(malformed("an answer claims more than 65535 rows"));
+        return Err(malformed("an answer claims more rows than a pool has"));
     }
     let rows = fulls(&fill_rest(from, used_words(&words) * 4)?);
     Ok(Some(Answer { words, clean: head[4], rows }))
@@ -174,7 +174,7 @@ mod tests {
         let mut bytes = vec![];
         let answer = sample().answer();
         write_answer(&mut bytes, &answer).unwrap();
-        assert_eq!(bytes.len(), 4 * (5 + 24));
+        assert_eq!(bytes.len(), 4 * (5 + 3 * ROW));
         assert_eq!(read_answer(&mut &bytes[..]).unwrap().unwrap(), answer);
     }
 }

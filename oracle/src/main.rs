@@ -5,6 +5,7 @@ mod examples;
 mod files;
 mod gen;
 mod groups;
+mod judge;
 mod kinds;
 mod lexer;
 mod model;
@@ -30,7 +31,8 @@ const USAGE: &str = "commands:
       (kinds: short valid damaged noise chains nesting limits mixed)
   gen examples               a batch of the worked examples
   record [--every N] [--most BYTES]   the cases of the batch on standard input, each with its answer
-      (one of every N cases; no records of more than so many bytes)
+      (one of every N cases; no records of more than so many bytes; stops where model and original
+      differ, and prints on standard error how many answers both give)
   outline                    what the printing program writes to the token file on standard input
   files FOLDER [--seed N] [--count N]   random token files NAME.tok, and what it writes to each: NAME.out
   answer                     the model's answers to the batch on standard input
@@ -75,9 +77,9 @@ fn run(arguments: &[String]) -> io::Result<bool> {
         }
         ("gen", rest) if !rest.is_empty() => generate(gen::cases(&wish(rest)?)),
         ("record", rest) => {
-            let mut out = BufWriter::new(io::stdout().lock());
-            record::record(&mut BufReader::new(io::stdin().lock()), &mut out, &choice(rest)?)?;
-            Ok(true)
+            let (mut cases, mut out) = (io::stdin().lock(), BufWriter::new(io::stdout().lock()));
+            let done = record::record(&mut cases, &mut out, &choice(rest)?, batch::Case::answer)?;
+            Ok(told(done))
         }
         ("outline", []) => {
             let mut file = vec![];
@@ -98,6 +100,15 @@ fn run(arguments: &[String]) -> io::Result<bool> {
         }
         _ => Err(wrong(USAGE.into())),
     }
+}
+
+/// Prints what came of a recording; false if it was stopped.
+fn told(done: Result<record::Tally, String>) -> bool {
+    match &done {
+        Ok(tally) => eprintln!("{}", tally),
+        Err(what) => eprintln!("oracle: {}", what),
+    }
+    done.is_ok()
 }
 
 /// The number behind an option.

@@ -12,6 +12,10 @@ pub const ROW: usize = 8;
 pub const MOST_ROWS: usize = 65535;
 pub type Row = [u32; ROW];
 
+/// Where a row's children stand, behind kind, mark and place, and its next word.
+pub const CHILDREN: std::ops::Range<usize> = 3..7;
+pub const NEXT: usize = 7;
+
 /// The three entries that read tokens.
 #[derive(Clone, Copy, Debug, PartialEq)]
 pub enum Entry {

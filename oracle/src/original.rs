@@ -8,6 +8,7 @@ use crate::model::{Entry, Row};
 use crate::parser::debug::ParserError;
 use crate::parser::Parser;
 use layout::Layout;
+use std::fmt;
 
 /// Stands for a place that the original's tree doesn't hold.
 pub const UNKNOWN: u32 = u32::MAX;
@@ -17,6 +18,44 @@ pub const UNKNOWN: u32 = u32::MAX;
 pub enum Outcome {
     Accepted { root: u32, place: u32, rows: Vec<Row> },
     Refused { number: u32, place: u32 },
+}
+
+impl Outcome {
+    /// The four answer words of 01.
+    pub fn words(&self) -> [u32; 4] {
+        match self {
+            Outcome::Accepted { root, place, rows } => [0, *root, rows.len() as u32, *place],
+            Outcome::Refused { number, place } => [*number, *place, 0, 0],
+        }
+    }
+
+    /// The tree's rows; none after a refusal.
+    pub fn rows(&self) -> &[Row] {
+        match self {
+            Outcome::Accepted { rows, .. } => rows,
+            Outcome::Refused { .. } => &[],
+        }
+    }
+
+    /// The root's reference; 0 after a refusal.
+    pub fn root(&self) -> u32 {
+        match self {
+            Outcome::Accepted { root, .. } => *root,
+            Outcome::Refused { .. } => 0,
+        }
+    }
+}
+
+impl fmt::Display for Outcome {
+    /// As the printing program's first line.
+    fn fmt(&self, to: &mut fmt::Formatter) -> fmt::Result {
+        match self {
+            Outcome::Accepted { root, place, rows } => {
+                write!(to, "ok {} {} {}", root, rows.len(), place)
+            }
+            Outcome::Refused { number, place } => write!(to, "no {} {}", number, place),
+        }
+    }
 }
 
 /// Runs the original on a valid array; `case.start` is below its length.

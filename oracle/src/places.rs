@@ -2,7 +2,7 @@
 use crate::batch::{Answer, Case};
 use crate::groups;
 use crate::kinds::{self, *};
-use crate::model::{Entry, ROW};
+use crate::model::{Entry, CHILDREN, NEXT, ROW};
 use crate::words;
 
 /// The first row whose place or grouped mark can't be right, as a sentence. A refusal has none.
@@ -32,11 +32,11 @@ pub fn misplaced(case: &Case, answer: &Answer) -> Option<String> {
 /// The lowest place in a row's tree. Children stand before their parents, so theirs are known.
 fn leftmost_place(row: &[u32], rows: &[u32], known: &[u32]) -> u32 {
     let mut lowest = row[2];
-    for &child in &row[3..7] {
+    for &child in &row[CHILDREN] {
         let mut reference = child as usize;
         while reference != 0 {
             lowest = lowest.min(known[reference - 1]);
-            reference = rows[(reference - 1) * ROW + 7] as usize;
+            reference = rows[(reference - 1) * ROW + NEXT] as usize;
         }
     }
     lowest
@@ -102,7 +102,7 @@ fn blocks_of(kind: u32) -> &'static [(usize, u16, bool)] {
 /// Each block of a statement stands where its opener is.
 fn blocks_fit(tokens: &[u16], row: &[u32], rows: &[u32]) -> bool {
     blocks_of(row[0]).iter().all(|&(slot, before, braced)| {
-        let reference = row[3 + slot] as usize;
+        let reference = row[CHILDREN][slot] as usize;
         if reference == 0 {
             return true;
         }
@@ -130,7 +130,7 @@ fn part_fits(tokens: &[u16], row: &[u32], leftmost: &[u32]) -> bool {
     let Some((slot, distance)) = part_behind(row) else {
         return true;
     };
-    let reference = row[3 + slot] as usize;
+    let reference = row[CHILDREN][slot] as usize;
     if reference == 0 {
         return true;
     }

@@ -1,12 +1,11 @@
 //! The self-check: model and original side by side, on every kind of case.
 use crate::batch::{Answer, Case};
-use crate::compare::{describe, summary, SHOWN};
+use crate::compare::{describe, SHOWN};
 use crate::examples;
 use crate::gen::{self, Kind, Wish};
+use crate::judge::difference;
 use crate::kinds;
-use crate::model::{Row, ROW};
-use crate::original::{self, Outcome, UNKNOWN};
-use crate::places;
+use crate::model::ROW;
 use std::collections::BTreeMap;
 use std::io;
 
@@ -21,7 +20,7 @@ const PLAN: [(Kind, Option<usize>); 7] = [
     (Kind::Limits, Some(10_000)),
 ];
 
-/// The refusals that both model and original can give.
+/// The refusals that the original gives too; each must be met.
 const SHARED: std::ops::RangeInclusive<u32> = 10..=29;
 
 #[derive(Default)]
@@ -38,7 +37,7 @@ struct Tally {
 pub fn run(seed: u64) -> io::Result<bool> {
     let mut all = Tally::default();
     for example in examples::all()? {
-        all.note(&example.case, Some(examples::check(&example)));
+        all.note(&example.case, examples::check(&example));
     }
     all.section("examples");
     for (kind, count) in PLAN {
@@ -108,45 +107,4 @@ impl Tally {
         }
         answers && rows
     }
-}
-
-/// Whether model and original differ; None where only the model can answer.
-pub fn difference(case: &Case, answer: &Answer) -> Option<Result<(), String>> {
-    if answer.words[0] != 0 && !SHARED.contains(&answer.words[0]) {
-        return None;
-    }
-    let outcome = original::run(case);
-    if answer.clean == 1 && same(answer, &outcome) {
-        return Some(places::misplaced(case, answer).map_or(Ok(()), Err));
-    }
-    Some(Err(contrast(answer, &outcome)))
-}
-
-/// Both answers, and the first row in which they differ.
-fn contrast(answer: &Answer, outcome: &Outcome) -> String {
-    let own = summary(answer);
-    let Outcome::Accepted { root, place, rows } = outcome else {
-        return format!("model {}, original {:?}", own, outcome);
-    };
-    let mut pairs = answer.row_arrays().into_iter().zip(rows).enumerate();
-    let first = pairs.find(|(_, (own, row))| !same_row(own, row));
-    format!("model {}, original ok {} {} {}, first row {:?}", own, root, rows.len(), place, first)
-}
-
-fn same(answer: &Answer, outcome: &Outcome) -> bool {
-    match outcome {
-        Outcome::Refused { number, place } => answer.words == [*number, *place, 0, 0],
-        Outcome::Accepted { root, place, rows } => {
-            answer.words == [0, *root, rows.len() as u32, *place]
-                && answer.rows.chunks(ROW).zip(rows).all(|(own, row)| same_row(own, row))
-        }
-    }
-}
-
-/// Rows agree in all that the original's tree holds.
-fn same_row(own: &[u32], row: &Row) -> bool {
-    own[0] == row[0]
-        && own[1] % kinds::GROUPED == row[1]
-        && (row[2] == UNKNOWN || own[2] == row[2])
-        && own[3..] == row[3..]
 }

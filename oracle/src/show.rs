@@ -1,8 +1,8 @@
 //! Shows one case for people: the answer and tree of the model, and those of the original.
 use crate::batch::Case;
 use crate::compare::{describe, summary};
-use crate::original::{self, Outcome};
-use crate::selfcheck::difference;
+use crate::judge::difference;
+use crate::original;
 use crate::tree;
 
 /// Prints both sides; true if they agree.
@@ -26,11 +26,7 @@ pub fn show(case: &Case) -> bool {
 }
 
 fn show_original(case: &Case) {
-    match original::run(case) {
-        Outcome::Refused { number, place } => println!("original: no {} {}", number, place),
-        Outcome::Accepted { root, place, rows } => {
-            println!("original: ok {} {} {}", root, rows.len(), place);
-            print!("{}", tree::lines(&rows, root, 1, ""));
-        }
-    }
+    let outcome = original::run(case);
+    println!("original: {}", outcome);
+    print!("{}", tree::lines(outcome.rows(), outcome.root(), 1, ""));
 }

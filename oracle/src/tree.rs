@@ -1,6 +1,6 @@
 //! Trees of rows for people: one line, or a line a row.
 use crate::kinds::*;
-use crate::model::Row;
+use crate::model::{Row, CHILDREN, NEXT};
 use crate::original::UNKNOWN;
 
 /// The references of one child slot: the child and those behind it by next words.
@@ -9,15 +9,16 @@ fn slot(rows: &[Row], child: u32) -> Vec<u32> {
     let mut reference = child;
     while reference != 0 {
         references.push(reference);
-        reference = rows[reference as usize - 1][7];
+        reference = rows[reference as usize - 1][NEXT];
     }
     references
 }
 
 /// The child slots of a row, those at the end that are empty left out.
 fn slots(rows: &[Row], row: &Row) -> Vec<Vec<u32>> {
-    let count = 4 - row[3..7].iter().rev().take_while(|&&child| child == 0).count();
-    row[3..3 + count].iter().map(|&child| slot(rows, child)).collect()
+    let children = &row[CHILDREN];
+    let count = children.iter().rposition(|&child| child != 0).map_or(0, |last| last + 1);
+    children[..count].iter().map(|&child| slot(rows, child)).collect()
 }
 
 /// A tree on one line: `kind/mark@place(child, child)`, a list's rows with blanks between.

@@ -4,6 +4,9 @@ use crate::batch::Case;
 use crate::model::{Entry, MOST_ROWS, ROW};
 use crate::words::*;
 
+/// The farthest start and the greatest length that a batch can hold.
+const FARTHEST: usize = u16::MAX as usize;
+
 /// The cases that every run of this kind has: lengths, starts and the largest pools.
 pub fn fixed() -> Vec<Case> {
     let mut cases = vec![];
@@ -11,25 +14,25 @@ pub fn fixed() -> Vec<Case> {
         let mut add = |start: usize, pool: usize, tokens: &[u16]| {
             cases.push(Case { entry, start, pool, tokens: tokens.to_vec() });
         };
-        for pool in 0..=17 {
+        for pool in 0..=2 * ROW + 1 {
             add(0, pool, &[EOF]);
             add(0, pool, &[IDENTIFIER, EOF]);
             add(0, pool, &[EMPTY, EOF]);
         }
-        for start in [0, 1, 2, 3, 4, 65535] {
-            add(start, 80, &[]);
-            add(start, 80, &[IDENTIFIER]);
-            add(start, 80, &[IDENTIFIER, SEMICOLON, EOF]);
-            add(start, 80, &[EOF, 0x0B00, EOF]);
+        for start in [0, 1, 2, 3, 4, FARTHEST] {
+            add(start, 10 * ROW, &[]);
+            add(start, 10 * ROW, &[IDENTIFIER]);
+            add(start, 10 * ROW, &[IDENTIFIER, SEMICOLON, EOF]);
+            add(start, 10 * ROW, &[EOF, 0x0B00, EOF]);
         }
-        for length in [LONGEST - 1, LONGEST, LONGEST + 1, 65535] {
+        for length in [LONGEST - 1, LONGEST, LONGEST + 1, FARTHEST] {
             for rows in [MOST_ROWS - 1, MOST_ROWS, MOST_ROWS + 1] {
                 add(0, rows * ROW + 3, &long(length, &[IDENTIFIER]));
             }
             add(0, MOST_ROWS * ROW, &long(length, &[IDENTIFIER, EQ]));
             add(0, MOST_ROWS * ROW, &long(length, &[IDENTIFIER, DOT]));
-            add(length - 2, 64, &long(length, &[IDENTIFIER, SEMICOLON]));
-            add(0, 64, &long(length, &[SEMICOLON]));
+            add(length - 2, 8 * ROW, &long(length, &[IDENTIFIER, SEMICOLON]));
+            add(0, 8 * ROW, &long(length, &[SEMICOLON]));
         }
     }
     cases

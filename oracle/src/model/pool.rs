@@ -1,8 +1,7 @@
 //! The pool of rows: taking the lowest free row, linking a list, marking a row.
-use super::{MOST_ROWS, ROW};
+use super::{CHILDREN, MOST_ROWS, NEXT, ROW};
 
 const MARK: usize = 1;
-const NEXT: usize = 7;
 
 pub struct Pool<'a> {
     words: &'a mut [u32],
@@ -27,7 +26,7 @@ impl<'a> Pool<'a> {
         }
         let row = &mut self.words[self.used * ROW..][..ROW];
         row[..3].copy_from_slice(&[kind, mark, place]);
-        row[3..3 + children.len()].copy_from_slice(children);
+        row[CHILDREN][..children.len()].copy_from_slice(children);
         self.used += 1;
         Some(self.used as u32)
     }

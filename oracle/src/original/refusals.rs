@@ -23,11 +23,14 @@ const BEGINNINGS: [(&str, u32); 19] = [
     ("Expected ; after continue", 29),
 ];
 
-/// The number for a message; 0 for one that 01 doesn't list.
+/// Stands for a message that 01 doesn't list; no answer has this number.
+const UNLISTED: u32 = u32::MAX;
+
+/// The number for a message.
 pub fn number(message: &str) -> u32 {
     if message.starts_with("const ") && message.ends_with("without any value") {
         return 19;
     }
     let found = BEGINNINGS.iter().find(|(beginning, _)| message.starts_with(beginning));
-    found.map_or(0, |(_, number)| *number)
+    found.map_or(UNLISTED, |(_, number)| *number)
 }
