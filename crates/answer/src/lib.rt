@@ -2,6 +2,11 @@
 use words::Checked;
 use words::Cursor;
 ghost use mathlib.Core.Path.{_≡_};
+ghost use Prim.Native.Nat.{ℕ};
+ghost use lib.Dec.{ltb};
+ghost use lib.ListN.{length};
+ghost use Rattle.grammar.specs.Parsed.{Check, need, BadStart};
+ghost use Rattle.grammar.specs.Script.{both, array-good};
 ghost use Rattle.answer.specs.Answer.{checks, start-of, ended, ended-pool};
 
 // The refusals of an array and of a start place.
@@ -28,21 +33,45 @@ pub enum Start {
     Refused(u32, usize),
 }
 
-// The check of an array and of a start place.
-pub fn check(tokens: &[u16], start: usize) -> Start
-    ensures { λ r. ⌜ r ≡ start-of (checks (now (tokens .entry)) start) start ⌝ }
+// The check of an array.
+fn of_array(tokens: &[u16], start: usize) -> Start
+    ensures { λ r. ⌜ r ≡ start-of (array-good (now (tokens .entry))) start ⌝ }
 {
     let checked = words::check(tokens);
     match checked {
         Checked::Bad(place) => Start::Refused(BAD_ARRAY, place),
-        Checked::Good => {
-            if tokens.len() <= start {
-                Start::Refused(BAD_START, 0)
-            } else {
-                Start::At(start)
-            }
-        }
+        Checked::Good => Start::At(start),
     }
+}
+
+// The check of a start place.
+fn of_place(tokens: &[u16], start: usize) -> Start
+    ensures { λ r. ⌜ r ≡ start-of (need (ltb start (length (now (tokens .entry)))) BadStart 0) start ⌝ }
+{
+    if tokens.len() <= start {
+        Start::Refused(BAD_START, 0)
+    } else {
+        Start::At(start)
+    }
+}
+
+// What one check says, and where it refuses nothing, what another says.
+fn one_then(first: Start, second: Start) -> Start
+    ensures { λ r. ⌜ ((a b : Check) (at : ℕ) → first ≡ start-of a at → second ≡ start-of b at → r ≡ start-of (both a b) at) ⌝ }
+{
+    match first {
+        Start::At(_) => second,
+        Start::Refused(n, p) => Start::Refused(n, p),
+    }
+}
+
+// The check of an array and then that of a start place.
+pub fn check(tokens: &[u16], start: usize) -> Start
+    ensures { λ r. ⌜ r ≡ start-of (checks (now (tokens .entry)) start) start ⌝ }
+{
+    let array = of_array(tokens, start);
+    let place = of_place(tokens, start);
+    one_then(array, place)
 }
 
 // The answer to what was read, with the pool zero again after a refusal.
