@@ -58,7 +58,7 @@ module _ (ts : List ℕ) (at : ℕ) where
   pub statement-eof : (d room : ℕ) → tok ts at ≡ EOF → Post (λ us c m. ⊥) (s.statement ts d at room)
   unfolding s.statement s.level s.kept match choose is s.expression-statement
   statement-eof zero room q = refl
-  statement-eof (suc d) room q = rw q (post-then _ _ _ _ (post-then _ _ _ _ (expression-eof d Zero room q) (λ t c m z. absurd z)) (λ t c m z. absurd z))
+  statement-eof (suc d) room q = rw q (post-then _ _ _ _ _ (post-then _ _ _ _ _ (expression-eof d Zero room q) (λ t c m z. absurd z)) (λ t c m z. absurd z))
 
   pub not-at-eof : {A : Type 0} (Q : Fact A) (x : Parsed A) → Post Q x → (tok ts at ≡ EOF → Post (λ a c m. ⊥) x)
       → Post (λ a c m. Q a c m × ¬ (tok ts at ≡ EOF)) x

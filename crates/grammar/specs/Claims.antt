@@ -1,5 +1,5 @@
 -- What is claimed of the definition, each claim as a named type.
-use Prim.Native.Nat.{ℕ, suc, _+_, _-_, _*_, _%_, _≤_, _<_}
+use Prim.Native.Nat.{ℕ, suc, _+_, _-_, _*_, _%_, _≤_, _<_, min, max}
 use mathlib.Core.Path.{_≡_}
 use mathlib.Core.Bool.{false, cond}
 use mathlib.Core.List.{List, [], _∷_, _++_, map}
@@ -9,10 +9,10 @@ use lib.ListN.{length, getD, take, replicate}
 use Rattle.grammar.specs.Words.{Integer, Str, Float, Char, Identifier, SSemiColon, SDot, KNone, KTrue, KFalse, tok, step, Zero, order, infix-of}
 use Rattle.grammar.specs.Words.{goes-on}
 use Rattle.grammar.specs.Tree.{Tree, infixed, node, Trees, nil, _▸_, size, sizes, lay, identifier, int, float, char, string, bool, none, width}
-use Rattle.grammar.specs.Parsed.{Parsed, refused, read, met, Unreached}
+use Rattle.grammar.specs.Parsed.{Parsed, refused, read, met, Unreached, NoRow}
 use Rattle.grammar.specs.Expressions.{expression}
 use Rattle.grammar.specs.Statements.{statement}
-use Rattle.grammar.specs.Script.{nesting, array-good, one-expression, one-statement, whole-script, rows, answer, pool, word-of}
+use Rattle.grammar.specs.Script.{nesting, array-good, one-expression, one-statement, whole-script, most-rows, rows, answer, pool, word-of}
 
 -- The three entries, from place 0.
 pub data Entry : Type 0 where
@@ -114,6 +114,38 @@ NeverUnreached =
     → (¬ (one-expression ts start room ≡ refused Unreached place))
     × (¬ (one-statement ts start room ≡ refused Unreached place))
     × (¬ (whole-script ts room ≡ refused Unreached place))
+
+-- How many tokens there are from a place on, EOF not counted.
+abbrev pub tokens-from : List ℕ → ℕ → ℕ
+tokens-from ts start = length ts - 1 - start
+
+-- Rows that are enough for an expression of n tokens or fewer: one for each.
+abbrev pub expression-rows : ℕ → ℕ
+expression-rows n = n
+
+-- Rows that are enough for a statement: one for each token and one for the statement, or two for each token but the first two.
+abbrev pub statement-rows : ℕ → ℕ
+statement-rows n = min (2 * n) (max (n + 1) (2 * n - 4))
+
+-- Rows that are enough for a whole script: two for each token, and one for the block.
+abbrev pub script-rows : ℕ → ℕ
+script-rows n = 2 * n + 1
+
+-- With so many rows no entry answers that a row is lacking.
+abbrev pub RowsEnough : Type 0
+RowsEnough =
+    (ts : List ℕ) (start room place : ℕ)
+    → (expression-rows (tokens-from ts start) ≤ room → ¬ (one-expression ts start room ≡ refused NoRow place))
+    × (statement-rows (tokens-from ts start) ≤ room → ¬ (one-statement ts start room ≡ refused NoRow place))
+    × (script-rows (tokens-from ts 0) ≤ room → ¬ (whole-script ts room ≡ refused NoRow place))
+
+-- So a pool with the most rows is never too small.
+abbrev pub LargestEnough : Type 0
+LargestEnough =
+    (ts : List ℕ) (start room place : ℕ) → most-rows ≤ room
+    → (¬ (one-expression ts start room ≡ refused NoRow place))
+    × (¬ (one-statement ts start room ≡ refused NoRow place))
+    × (¬ (whole-script ts room ≡ refused NoRow place))
 
 -- An answer whose first word is 0 is an acceptance.
 abbrev pub Accepts : Parsed Trees → Type 0
