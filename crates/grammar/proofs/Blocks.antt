@@ -16,10 +16,10 @@ use Rattle.grammar.specs.Parsed.{Parsed, Reader, _>>=_, turns, BreakWith
 use Rattle.grammar.specs.Expressions.{Rec, list-expr, expression}
 use Rattle.grammar.specs.Statements.{statements, opened, block, assert, function, else, if, value, var, const, while, return, foreach, for}
 use Rattle.grammar.specs.Statements.{throw, finally, try, expression-statement, alone, begun, kept, level, statement}
-use Rattle.grammar.proofs.Post.{Fact, Post, post-then, post-map, post-refused, post-need, post-choose, end, _▹_}
+use Rattle.grammar.proofs.Post.{Fact, Post, post-then, post-map, post-refused, post-need, post-choose, match-each, end, _▹_}
 use Rattle.grammar.proofs.Steps.{step-on}
 use Rattle.grammar.proofs.Turns.{Valid, goes-forward, enough, statement-eof, not-at-eof}
-use Rattle.grammar.proofs.Runs.{Run, Above, Ahead, start, up₀, up, both, later, Hands, hands, Reads, shut-hands, begun-at, match-reads}
+use Rattle.grammar.proofs.Runs.{Run, Above, Ahead, start, up₀, up, both, later, Hands, hands, Reads, shut-hands, begun-at}
 use Rattle.grammar.proofs.Runs.{single, listed, row-of, row-list, rec-then, list-then, expression-runs}
 
 -- What a statement's reader gives: and it reads nothing at EOF.
@@ -145,7 +145,7 @@ module _ (ts : List ℕ) (v : Valid ts) (expr : Rec) (expr-runs : (pre at room :
 
     kept-runs : Reads ts (kept ts expr stmt)
     unfolding kept
-    kept-runs at room h = match-reads ts (tok ts at) (expression-statement ts expr stmt)
+    kept-runs at room h = match-each _ _ _ (tok ts at) (expression-statement ts expr stmt)
         (alone-runs 32 BreakWithoutSemicolon refl refl ▹ alone-runs 33 ContinueWithoutSemicolon refl refl ▹ begun-runs _ (begun-at ts (var ts expr stmt) var-runs)
         ▹ begun-runs _ (begun-at ts (const ts expr stmt) const-runs) ▹ begun-runs _ if-runs ▹ begun-runs _ assert-runs ▹ begun-runs _ while-runs ▹ return-runs
         ▹ begun-runs _ (begun-at ts (function ts expr stmt) function-runs) ▹ begun-runs _ for-runs ▹ begun-runs _ throw-runs ▹ begun-runs _ try-runs ▹ begun-runs _ foreach-runs ▹ end)

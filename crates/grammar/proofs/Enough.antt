@@ -10,11 +10,11 @@ use lib.ListN.{length}
 use borrow.Author.Tests.{eqb-true, eqb-false}
 use Rattle.grammar.specs.Words.{Identifier, SColon, SDot, EOF, Zero, tok, step, is, next-is, class, goes-on}
 use Rattle.grammar.specs.Tree.{Tree, Trees, nil, _▸_, join, leaf, Thread, Async}
-use Rattle.grammar.specs.Parsed.{Parsed, Reader, _>>=_, build, choose, Arm, match, turns, NoRow}
+use Rattle.grammar.specs.Parsed.{Parsed, Reader, _>>=_, build, choose, match, turns, NoRow}
 use Rattle.grammar.specs.Expressions.{Rec, get-identifier, dots, dot-expression, no-prefix, entries, list-expr, pair, hash-literal, array}
 use Rattle.grammar.specs.Expressions.{lambda, started, prefix, sub-expression, command, shell, prefix-part, infix-expression, suffix-expression}
 use Rattle.grammar.specs.Expressions.{call, index, operation, climb, level, expression}
-use Rattle.grammar.proofs.Post.{Fact, Ends, post-then, post-map, post-refused, post-need, post-choose, post-build, Arms, end, _▹_}
+use Rattle.grammar.proofs.Post.{Fact, Ends, post-then, post-map, post-refused, post-need, post-choose, post-build, Each, match-each, end, _▹_}
 use Rattle.grammar.proofs.Steps.{step-on, step-up}
 use Rattle.grammar.proofs.Turns.{Valid, no-end, in-step, goes-forward}
 use Rattle.grammar.proofs.Runs.{Ahead, up₀, up}
@@ -74,12 +74,7 @@ module _ (ts : List ℕ) (v : Valid ts) where
 
   -- A reader of one tree from a place that isn't EOF's.
   abbrev pub Takes : Reader Tree → Type 0
-  Takes f = (at room : ℕ) → Paid ts at room 1 at room → Spares (Took ts at room) (f at room)
-
-  pub match-takes : {arms : List (Arm Tree)} (w : ℕ) (other : Reader Tree) → Arms Takes arms → Takes other → Takes (match w arms other)
-  unfolding match
-  match-takes w other end h at room r = h at room r
-  match-takes w other (x ▹ xs) h at room r = post-choose _ _ _ _ _ (λ e. x at room r) (λ e. match-takes w other xs h at room r)
+  Takes f = Each (λ n. eqb n NoRow ≡ false) (λ at room. Paid ts at room 1 at room) (Took ts) f
 
   leaf-takes : (k mark : ℕ) → Takes (λ at. build (leaf k mark at) at)
   leaf-takes k mark at room r = row _ at r (up₀ ts at)
@@ -139,7 +134,7 @@ module _ (ts : List ℕ) (v : Valid ts) where
         (λ e. read-then _ entry _ room h _ _ s n k at x (up ts _ _ (up₀ ts (step ts at))) (λ t c m q. entries-paid entry h i s n k (join list (t ▸ nil)) c m q))
         (λ e. x)
 
-    list-paid : (s n k at room : ℕ) → Paid ts s n k at room → Spares (λ us. Paid ts s n k) (list-expr ts rec at room)
+    pub list-paid : (s n k at room : ℕ) → Paid ts s n k at room → Spares (λ us. Paid ts s n k) (list-expr ts rec at room)
     unfolding list-expr
     list-paid s n k at room x = post-choose _ _ _ _ _ (λ e. x)
         (λ e. rec-then _ Zero _ room _ _ s n k at x (up₀ ts (step ts at)) (λ t c m q. entries-paid (rec Zero) (ih Zero) turns s n k (t ▸ nil) c m q))
@@ -187,7 +182,7 @@ module _ (ts : List ℕ) (v : Valid ts) where
     Held at room t c m = (made : Tree) (c′ : ℕ) → Ahead ts c c′ → Took ts at room made c′ m
 
     next-took : (at room : ℕ) → Paid ts at room 1 at room → Spares (Held at room) (rec Zero (step ts at) room)
-    next-took at room r = post-map _ (Took ts (step ts at) room) (Held at room) _ (ih Zero (step ts at) room (in-step ts at (r .within)) (omega (arith, r, step-on ts at))) (λ t c m q made c′ h.
+    next-took at room r = post-map _ (Took ts (step ts at) room) (Held at room) (rec Zero (step ts at) room) (ih Zero (step ts at) room (in-step ts at (r .within)) (omega (arith, r, step-on ts at))) (λ t c m q made c′ h.
         let p : Paid ts at room 0 c m = record { within = q .paid .within; given = r .given; fewer = q .paid .fewer; fits = omega (arith, q .paid .fits, step-on ts at) } in
         record { paid = later p h; some = q .some })
 
@@ -202,7 +197,7 @@ module _ (ts : List ℕ) (v : Valid ts) where
 
     prefix-part-takes : Takes (prefix-part ts rec)
     unfolding prefix-part
-    prefix-part-takes at room r = match-takes (tok ts at) (no-prefix ts)
+    prefix-part-takes at room r = match-each _ _ _ (tok ts at) (no-prefix ts)
         (dot-takes ▹ leaf-takes 3 0 ▹ leaf-takes 4 0 ▹ leaf-takes 5 0 ▹ leaf-takes 6 0 ▹ leaf-takes 7 1 ▹ leaf-takes 7 0 ▹ lambda-takes ▹ leaf-takes 1 0
         ▹ started-takes Thread ▹ started-takes Async ▹ array-takes ▹ hash-takes ▹ prefix-takes 0 ▹ prefix-takes 1 ▹ prefix-takes 2 ▹ prefix-takes 3
         ▹ sub-takes ▹ shell-takes ▹ end)
@@ -229,7 +224,7 @@ module _ (ts : List ℕ) (v : Valid ts) where
         (λ e. record { paid = later (q .paid) (up ts c c (up₀ ts c)); some = q .some }) (λ e. climb-takes pre turns at room t c m q))
 
   -- At EOF an expression is refused, and not for want of a row.
-  expression-spares : (d pre at room : ℕ) → tok ts at ≡ EOF → Spares (λ t c m. ⊥) (expression ts d pre at room)
+  pub expression-spares : (d pre at room : ℕ) → tok ts at ≡ EOF → Spares (λ t c m. ⊥) (expression ts d pre at room)
   unfolding expression level prefix-part match choose no-prefix class _>>=_
   expression-spares zero pre at room q = refl
   expression-spares (suc d) pre at room q = rw q

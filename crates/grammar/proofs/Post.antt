@@ -5,7 +5,7 @@ use mathlib.Core.Bool.{Bool, true, false}
 use mathlib.Core.List.{List, [], _∷_}
 use lib.Dec.{ltb}
 use Rattle.grammar.specs.Tree.{Tree}
-use Rattle.grammar.specs.Parsed.{Parsed, refused, read, Reader, _>>=_, _>>_, need, build, choose, Arm, _⇒_, NoRow}
+use Rattle.grammar.specs.Parsed.{Parsed, refused, read, Reader, _>>=_, _>>_, need, build, choose, Arm, _⇒_, match, NoRow}
 
 abbrev pub Fact : Type 0 → Type 1
 Fact A = A → ℕ → ℕ → Type 0
@@ -54,3 +54,13 @@ infixr 5 _▹_
 pub data Arms {A : Type 0} (P : Reader A → Type 0) : List (Arm A) → Type 0 where
   end : Arms P []
   _▹_ : {w : ℕ} {f : Reader A} {arms : List (Arm A)} → P f → Arms P arms → Arms P ((w ⇒ f) ∷ arms)
+
+-- What holds of a reader wherever it starts, and so of a match of such readers.
+abbrev pub Each : {A : Type 0} → (ℕ → Type 0) → (ℕ → ℕ → Type 0) → (ℕ → ℕ → Fact A) → Reader A → Type 0
+Each B H Q f = (at room : ℕ) → H at room → Ends B (Q at room) (f at room)
+
+pub match-each : {A : Type 0} (B : ℕ → Type 0) (H : ℕ → ℕ → Type 0) (Q : ℕ → ℕ → Fact A) {arms : List (Arm A)} (w : ℕ) (other : Reader A)
+    → Arms (Each B H Q) arms → Each B H Q other → Each B H Q (match w arms other)
+unfolding match
+match-each B H Q w other end h at room r = h at room r
+match-each B H Q w other (x ▹ xs) h at room r = post-choose _ _ _ _ _ (λ e. x at room r) (λ e. match-each B H Q w other xs h at room r)

@@ -7,17 +7,17 @@ use mathlib.Core.Logic.{_⊎_, inl, inr, ⊎-map}
 use native.Mathlib.Omega.{arith}
 use native.Mathlib.Decide.{decLt}
 use native.Mathlib.Nat.{add-mod-right, div-eq-of-lt, mod-eq-of-lt}
-use lib.Dec.{eqb}
+use lib.Dec.{eqb, ltb}
 use lib.ListN.{length, List·getD-eq-default}
 use Rattle.grammar.specs.Words.{SSemiColon, SComma, SDot, EOF, tok, step, is, next-is, Zero, order, infix-of, goes-on}
 use Rattle.grammar.specs.Tree.{Tree, infixed, node, Trees, nil, _▸_, sizes, join, leaf, flagged, flag, Thread, Async, Grouped, is-call}
 use Rattle.grammar.specs.Tree as tree
-use Rattle.grammar.specs.Parsed.{Parsed, Reader, read, _>>=_, build, Arm, match, turns}
+use Rattle.grammar.specs.Parsed.{Parsed, Reader, read, _>>=_, build, match, turns}
 use Rattle.grammar.specs.Expressions.{Rec, get-identifier, dots, dot-expression, no-prefix, entries, list-expr, pair, hash-literal, array}
 use Rattle.grammar.specs.Expressions.{lambda, started, prefix, sub-expression, command, shell, prefix-part, infix-expression, suffix-expression}
 use Rattle.grammar.specs.Expressions.{call, index, operation, climb, level, expression}
 use Rattle.grammar.specs.Claims.{Binds, EveryOf, KeepsBut}
-use Rattle.grammar.proofs.Post.{Fact, Post, post-then, post-map, post-refused, post-need, post-choose, post-build, Arms, end, _▹_}
+use Rattle.grammar.proofs.Post.{Fact, Post, post-then, post-map, post-refused, post-need, post-choose, post-build, Each, match-each, end, _▹_}
 use Rattle.grammar.proofs.Steps.{step-on, step-one, infix-order, others, halts, goes, infix-facts}
 use Rattle.grammar.proofs.Turns.{Valid, no-end, in-step, goes-forward, behind, enough, expression-eof}
 use borrow.Author.Tests.{lt-ltb, eqb-true}
@@ -158,7 +158,7 @@ module _ (ts : List ℕ) where
 
   -- A reader of one tree that is no infix row without brackets.
   abbrev pub Reads : Reader Tree → Type 0
-  Reads f = (at room : ℕ) → at < length ts → Post (Shut ts at room) (f at room)
+  Reads f = Each (λ n. ltb 0 n ≡ true) (λ at room. at < length ts) (Shut ts) f
 
   read-runs : (f : Reader Tree) → Reads f → (at room : ℕ) → at < length ts → Post (λ t. Run ts at room (t ▸ nil)) (f at room)
   read-runs f p at room h = post-map _ _ _ (f at room) (p at room h) (λ t c m q. q .run)
@@ -166,15 +166,10 @@ module _ (ts : List ℕ) where
   pub shut-hands : (A : Type 0) (f : Reader Tree) (at room : ℕ) → Reads f → Hands A single at room (f at room)
   shut-hands A f at room p = hands A single at room (f at room) (read-runs f p at room)
 
-  -- A reader that starts a step on, and a match of readers.
+  -- A reader that starts a step on.
   pub begun-at : (f : Reader Tree) → Reads f → Reads (λ at. f (step ts at))
   begun-at f p at room h = post-map _ _ _ (f (step ts at) room) (p (step ts at) room (in-step ts at h)) (λ t c m q.
       record { run = from (step-on ts at) (q .run); shut = q .shut })
-
-  pub match-reads : {arms : List (Arm Tree)} (w : ℕ) (other : Reader Tree) → Arms Reads arms → Reads other → Reads (match w arms other)
-  unfolding match
-  match-reads w other end h at room k = h at room k
-  match-reads w other (r ▹ rs) h at room k = post-choose _ _ _ _ _ (λ e. r at room k) (λ e. match-reads w other rs h at room k)
 
   -- A call that is started, and a tree in brackets, get their flags.
   flag-call : (f : ℕ) {s n c m : ℕ} {t : Tree} → Run ts s n (t ▸ nil) c m → is-call t ≡ true → Shut ts s n (flagged f t) c m
@@ -317,7 +312,7 @@ module _ (ts : List ℕ) where
 
       pub prefix-part-runs : Reads (prefix-part ts rec)
       unfolding prefix-part
-      prefix-part-runs at room h = match-reads (tok ts at) (no-prefix ts)
+      prefix-part-runs at room h = match-each _ _ _ (tok ts at) (no-prefix ts)
           (dot-runs ▹ leaf-runs 3 0 refl ▹ leaf-runs 4 0 refl ▹ leaf-runs 5 0 refl ▹ leaf-runs 6 0 refl ▹ leaf-runs 7 1 refl ▹ leaf-runs 7 0 refl ▹ lambda-runs
           ▹ leaf-runs 1 0 refl ▹ started-runs Thread ▹ started-runs Async ▹ array-runs ▹ hash-runs ▹ prefix-runs 0 ▹ prefix-runs 1 ▹ prefix-runs 2 ▹ prefix-runs 3
           ▹ sub-runs ▹ shell-runs ▹ end)
