@@ -2,10 +2,10 @@
 use Prim.Native.Nat.{ℕ, suc, _+_, _-_, _*_, _%_, _≤_, _<_, min, max}
 use mathlib.Core.Path.{_≡_}
 use mathlib.Core.Bool.{false, cond}
-use mathlib.Core.List.{List, [], _∷_, _++_, map}
+use mathlib.Core.List.{List, [], _∷_, _++_}
 use mathlib.Core.Logic.{_⊎_}
 use lib.Dec.{eqb, ltb}
-use lib.ListN.{length, getD, take, replicate}
+use lib.ListN.{length, getD, replicate}
 use Rattle.grammar.specs.Words.{Integer, Str, Float, Char, Identifier, SSemiColon, SDot, KNone, KTrue, KFalse, tok, step, Zero, order, infix-of}
 use Rattle.grammar.specs.Words.{goes-on}
 use Rattle.grammar.specs.Tree.{Tree, infixed, node, Trees, nil, _▸_, size, sizes, lay, identifier, int, float, char, string, bool, none, width}
@@ -13,38 +13,6 @@ use Rattle.grammar.specs.Parsed.{Parsed, refused, read, met, Unreached, 
 use Rattle.grammar.specs.Expressions.{expression}
 use Rattle.grammar.specs.Statements.{statement}
 use Rattle.grammar.specs.Script.{nesting, array-good, one-expression, one-statement, whole-script, most-rows, rows, answer, pool, word-of}
-
--- The three entries, from place 0.
-pub data Entry : Type 0 where
-  X S W : Entry
-
--- What an entry reads.
-unfoldable pub entered : Entry → List ℕ → (room : ℕ) → Parsed Trees
-entered X ts room = one-expression ts 0 room
-entered S ts room = one-statement ts 0 room
-entered W ts room = whole-script ts room
-
--- An example: an entry, tokens, a number of rows, the answer, and the words of the rows, or as many of them as are given.
-pub record Example : Type 0 where
-  pub entry : Entry
-  pub tokens : List ℕ
-  pub room : ℕ
-  pub answered : List ℕ
-  pub laid : List ℕ
-
--- What an example gives by the definition.
-unfoldable pub found : Example → List ℕ
-found e =
-    let p = entered (e .entry) (e .tokens) (e .room) in
-    answer p ++ take (length (e .laid)) (pool (width * e .room) p)
-
--- What it is expected to give.
-unfoldable pub expected : Example → List ℕ
-expected e = e .answered ++ e .laid
-
--- Examples that the definition agrees with.
-abbrev pub Agrees : List Example → Type 0
-Agrees table = map found table ≡ map expected table
 
 -- The order of each infix operator by its mark: Plus, Minus; Mul, Div, Mod; And; Or; Equal; EEqual, NotEqual; the four comparisons; LogicalOr;
 -- LogicalAnd; PlusEq, MinusEq, MulEq, DivEq, AndEq, OrEq, ModEq.
