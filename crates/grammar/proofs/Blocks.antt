@@ -159,4 +159,4 @@ pub statement-runs : (ts : List ℕ) (v : Valid ts) (d at room : ℕ) → at < l
 unfolding statement
 statement-runs ts v zero at room h = refl
 statement-runs ts v (suc d) at room h = not-at-eof ts at (Run ts at room) (statement ts (suc d) at room)
-    (level-runs ts v (expression ts d) (expression-runs ts v d) (statement ts d) (statement-runs ts v d) at room h) (statement-eof ts at (suc d) room)
+    (level-runs ts v (expression ts d) (expression-runs ts v d) (statement ts d) (statement-runs ts v d) at room h) (statement-eof ts at _ refl refl (suc d) room)

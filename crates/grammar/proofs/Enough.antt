@@ -1,6 +1,6 @@
 -- Rows enough for expressions: each row that is taken can be put down to a token of its own, so that none is lacking.
 use Prim.Native.Nat.{ℕ, zero, suc, _+_, _≤_, _<_}
-use mathlib.Core.Path.{_≡_, refl, sym, ap, _∙_}
+use mathlib.Core.Path.{_≡_, refl, sym, _∙_}
 use mathlib.Core.Bool.{Bool, true, false}
 use mathlib.Core.List.{List}
 use mathlib.Core.Logic.{inl}
@@ -8,22 +8,26 @@ use native.Mathlib.Omega.{arith}
 use lib.Dec.{eqb}
 use lib.ListN.{length}
 use borrow.Author.Tests.{eqb-true, eqb-false}
-use Rattle.grammar.specs.Words.{Identifier, SColon, SDot, EOF, Zero, tok, step, is, next-is, class, goes-on}
+use Rattle.grammar.specs.Words.{Identifier, SColon, SDot, EOF, Zero, tok, step, is, next-is}
 use Rattle.grammar.specs.Tree.{Tree, Trees, nil, _▸_, join, leaf, Thread, Async}
-use Rattle.grammar.specs.Parsed.{Parsed, Reader, _>>=_, build, choose, match, turns, NoRow}
+use Rattle.grammar.specs.Parsed.{Parsed, Reader, _>>=_, build, match, turns, NoRow}
 use Rattle.grammar.specs.Expressions.{Rec, get-identifier, dots, dot-expression, no-prefix, entries, list-expr, pair, hash-literal, array}
 use Rattle.grammar.specs.Expressions.{lambda, started, prefix, sub-expression, command, shell, prefix-part, infix-expression, suffix-expression}
 use Rattle.grammar.specs.Expressions.{call, index, operation, climb, level, expression}
 use Rattle.grammar.proofs.Post.{Fact, Ends, post-then, post-map, post-refused, post-need, post-choose, post-build, Each, match-each, end, _▹_}
 use Rattle.grammar.proofs.Steps.{step-on, step-up}
-use Rattle.grammar.proofs.Turns.{Valid, no-end, in-step, goes-forward}
+use Rattle.grammar.proofs.Turns.{Valid, no-end, expression-eof, in-step, goes-forward}
 use Rattle.grammar.proofs.Runs.{Ahead, up₀, up}
 
 -- A fact of what was read, where no refusal is for want of a row.
-abbrev pub Spares : {A : Type 0} → Fact A → Parsed A → Type 0
-Spares Q x = Ends (λ n. eqb n NoRow ≡ false) Q x
+abbrev pub Spared : ℕ → Type 0
+Spared n = eqb n NoRow ≡ false
 
--- From the place s on n rows were enough; now c is current and m rows are left. Each row taken has a token of its own up to c, and k more have none.
+abbrev pub Spares : {A : Type 0} → Fact A → Parsed A → Type 0
+Spares Q x = Ends Spared Q x
+
+-- From the place s on n rows were enough; now c is current and m rows are left. Each row taken has a token of its own up to c, and k tokens
+-- more have none.
 pub record Paid (ts : List ℕ) (s n k c m : ℕ) : Type 0 where
   pub within : c < length ts
   pub given : length ts ≤ n + s + 1
@@ -34,6 +38,15 @@ pub record Paid (ts : List ℕ) (s n k c m : ℕ) : Type 0 where
 pub record Took (ts : List ℕ) (s n : ℕ) (t : Tree) (c m : ℕ) : Type 0 where
   pub paid : Paid ts s n 0 c m
   pub some : m < n
+
+-- Where nothing is read at EOF, it is enough to look at other places.
+pub but-at-eof : {A : Type 0} (ts : List ℕ) (Q : Fact A) (at : ℕ) (x : Parsed A) → (tok ts at ≡ EOF → Spares (λ a c m. ⊥) x)
+    → (¬ (tok ts at ≡ EOF) → Spares Q x) → Spares Q x
+but-at-eof ts Q at x h k = go (eqb (tok ts at) EOF) refl
+  where
+    go : (b : Bool) → eqb (tok ts at) EOF ≡ b → Spares Q x
+    go true e = post-map _ _ Q x (h (eqb-true _ _ e)) (λ a c m z. absurd z)
+    go false e = k (eqb-false _ _ e)
 
 module _ (ts : List ℕ) (v : Valid ts) where
   -- A word that isn't EOF has a place behind it.
@@ -74,7 +87,7 @@ module _ (ts : List ℕ) (v : Valid ts) where
 
   -- A reader of one tree from a place that isn't EOF's.
   abbrev pub Takes : Reader Tree → Type 0
-  Takes f = Each (λ n. eqb n NoRow ≡ false) (λ at room. Paid ts at room 1 at room) (Took ts) f
+  Takes f = Each Spared (λ at room. Paid ts at room 1 at room) (Took ts) f
 
   leaf-takes : (k mark : ℕ) → Takes (λ at. build (leaf k mark at) at)
   leaf-takes k mark at room r = row _ at r (up₀ ts at)
@@ -182,7 +195,8 @@ module _ (ts : List ℕ) (v : Valid ts) where
     Held at room t c m = (made : Tree) (c′ : ℕ) → Ahead ts c c′ → Took ts at room made c′ m
 
     next-took : (at room : ℕ) → Paid ts at room 1 at room → Spares (Held at room) (rec Zero (step ts at) room)
-    next-took at room r = post-map _ (Took ts (step ts at) room) (Held at room) (rec Zero (step ts at) room) (ih Zero (step ts at) room (in-step ts at (r .within)) (omega (arith, r, step-on ts at))) (λ t c m q made c′ h.
+    next-took at room r = post-map _ (Took ts (step ts at) room) (Held at room) (rec Zero (step ts at) room)
+        (ih Zero (step ts at) room (in-step ts at (r .within)) (omega (arith, r, step-on ts at))) (λ t c m q made c′ h.
         let p : Paid ts at room 0 c m = record { within = q .paid .within; given = r .given; fewer = q .paid .fewer; fits = omega (arith, q .paid .fits, step-on ts at) } in
         record { paid = later p h; some = q .some })
 
@@ -223,21 +237,8 @@ module _ (ts : List ℕ) (v : Valid ts) where
     level-reads pre at room r = post-then _ _ _ _ _ (prefix-part-takes at room r) (λ t c m q. post-choose _ _ _ _ _
         (λ e. record { paid = later (q .paid) (up ts c c (up₀ ts c)); some = q .some }) (λ e. climb-takes pre turns at room t c m q))
 
-  -- At EOF an expression is refused, and not for want of a row.
-  pub expression-spares : (d pre at room : ℕ) → tok ts at ≡ EOF → Spares (λ t c m. ⊥) (expression ts d pre at room)
-  unfolding expression level prefix-part match choose no-prefix class _>>=_
-  expression-spares zero pre at room q = refl
-  expression-spares (suc d) pre at room q = rw q
-
-  pub but-at-eof : {A : Type 0} (Q : Fact A) (at : ℕ) (x : Parsed A) → (tok ts at ≡ EOF → Spares (λ a c m. ⊥) x) → (¬ (tok ts at ≡ EOF) → Spares Q x) → Spares Q x
-  but-at-eof Q at x h k = go (eqb (tok ts at) EOF) refl
-    where
-      go : (b : Bool) → eqb (tok ts at) EOF ≡ b → Spares Q x
-      go true e = post-map _ _ Q x (h (eqb-true _ _ e)) (λ a c m z. absurd z)
-      go false e = k (eqb-false _ _ e)
-
   pub expression-reads : (d pre : ℕ) → Reads (expression ts d pre)
   unfolding expression
   expression-reads zero pre at room h g = refl
-  expression-reads (suc d) pre at room h g = but-at-eof (Took ts at room) at (expression ts (suc d) pre at room) (expression-spares (suc d) pre at room)
+  expression-reads (suc d) pre at room h g = but-at-eof ts (Took ts at room) at (expression ts (suc d) pre at room) (expression-eof ts at _ refl refl (suc d) pre room)
       (λ n. level-reads (expression ts d) (expression-reads d) pre at room (begin at room h g n))

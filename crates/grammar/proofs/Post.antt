@@ -16,8 +16,11 @@ Ends B Q (refused n p) = B n
 Ends B Q (read t at room) = Q t at room
 
 -- The same where no refusal has the number 0.
+abbrev pub Numbered : ℕ → Type 0
+Numbered n = ltb 0 n ≡ true
+
 abbrev pub Post : {A : Type 0} → Fact A → Parsed A → Type 0
-Post Q x = Ends (λ n. ltb 0 n ≡ true) Q x
+Post Q x = Ends Numbered Q x
 
 module _ (B : ℕ → Type 0) where
   pub post-then : {A C : Type 0} (Q : Fact A) (R : Fact C) (x : Parsed A) (f : A × ℕ × ℕ → Parsed C) → Ends B Q x

@@ -7,7 +7,7 @@ use mathlib.Core.Logic.{_⊎_, inl, inr, ⊎-map}
 use native.Mathlib.Omega.{arith}
 use native.Mathlib.Decide.{decLt}
 use native.Mathlib.Nat.{add-mod-right, div-eq-of-lt, mod-eq-of-lt}
-use lib.Dec.{eqb, ltb}
+use lib.Dec.{eqb}
 use lib.ListN.{length, List·getD-eq-default}
 use Rattle.grammar.specs.Words.{SSemiColon, SComma, SDot, EOF, tok, step, is, next-is, Zero, order, infix-of, goes-on}
 use Rattle.grammar.specs.Tree.{Tree, infixed, node, Trees, nil, _▸_, sizes, join, leaf, flagged, flag, Thread, Async, Grouped, is-call}
@@ -17,7 +17,7 @@ use Rattle.grammar.specs.Expressions.{Rec, get-identifier, dots, dot-exp
 use Rattle.grammar.specs.Expressions.{lambda, started, prefix, sub-expression, command, shell, prefix-part, infix-expression, suffix-expression}
 use Rattle.grammar.specs.Expressions.{call, index, operation, climb, level, expression}
 use Rattle.grammar.specs.Claims.{Binds, EveryOf, KeepsBut}
-use Rattle.grammar.proofs.Post.{Fact, Post, post-then, post-map, post-refused, post-need, post-choose, post-build, Each, match-each, end, _▹_}
+use Rattle.grammar.proofs.Post.{Fact, Numbered, Post, post-then, post-map, post-refused, post-need, post-choose, post-build, Each, match-each, end, _▹_}
 use Rattle.grammar.proofs.Steps.{step-on, step-one, infix-order, others, halts, goes, infix-facts}
 use Rattle.grammar.proofs.Turns.{Valid, no-end, in-step, goes-forward, behind, enough, expression-eof}
 use borrow.Author.Tests.{lt-ltb, eqb-true}
@@ -158,7 +158,7 @@ module _ (ts : List ℕ) where
 
   -- A reader of one tree that is no infix row without brackets.
   abbrev pub Reads : Reader Tree → Type 0
-  Reads f = Each (λ n. ltb 0 n ≡ true) (λ at room. at < length ts) (Shut ts) f
+  Reads f = Each Numbered (λ at room. at < length ts) (Shut ts) f
 
   read-runs : (f : Reader Tree) → Reads f → (at room : ℕ) → at < length ts → Post (λ t. Run ts at room (t ▸ nil)) (f at room)
   read-runs f p at room h = post-map _ _ _ (f at room) (p at room h) (λ t c m q. q .run)
@@ -381,5 +381,5 @@ module _ (ts : List ℕ) where
         go (yes lt) = (omega arith, lt, rw h at (expression-runs (suc d) pre s n lt))
         go (no ge) =
             let le : length ts ≤ s = omega arith in
-            let f : Post (λ t c m. ⊥) (read t c m) = rw h at (expression-eof ts s (suc d) pre n (List·getD-eq-default ts EOF le)) in
+            let f : Post (λ t c m. ⊥) (read t c m) = rw h at (expression-eof ts s Numbered refl refl (suc d) pre n (List·getD-eq-default ts EOF le)) in
             absurd f

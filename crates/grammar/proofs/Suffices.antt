@@ -1,16 +1,16 @@
 -- Rows enough for statements and scripts: two for each token, or fewer for one statement; and the claims.
 use Prim.Native.Nat.{ℕ, zero, suc, _+_, _*_, _/_, _≤_, _<_}
 use mathlib.Core.Path.{_≡_, refl}
-use mathlib.Core.Bool.{Bool, true, false}
+use mathlib.Core.Bool.{true, false}
 use mathlib.Core.List.{List}
 use mathlib.Core.Logic.{inl}
 use native.Mathlib.Nat.{le-div-iff-mul-le}
 use native.Mathlib.Omega.{arith}
-use lib.Dec.{eqb, ltb}
+use lib.Dec.{eqb}
 use lib.ListN.{length}
 use borrow.Author.Tests.{ltb-true}
 use Rattle.grammar.specs.Words.{Identifier, SLParen, SComma, SLBrace, SRBrace, KIn, EOF, Zero, tok, step, is, next-is}
-use Rattle.grammar.specs.Tree.{Tree, Trees, nil, _▸_, join, width}
+use Rattle.grammar.specs.Tree.{Tree, Trees, nil, join, width}
 use Rattle.grammar.specs.Tree as tree
 use Rattle.grammar.specs.Parsed.{Parsed, refused, Reader, _>>=_, build, choose, match, turns, BreakWithoutSemicolon, ContinueWithoutSemicolon, NoRow}
 use Rattle.grammar.specs.Expressions.{Rec, list-expr, expression}
@@ -18,19 +18,19 @@ use Rattle.grammar.specs.Statements.{statements, opened, block, assert, 
 use Rattle.grammar.specs.Statements.{throw, finally, try, expression-statement, alone, begun, kept, level, statement}
 use Rattle.grammar.specs.Script.{nesting, one-expression, one-statement, whole-script, most-rows, largest, rows}
 use Rattle.grammar.specs.Claims.{tokens-from, expression-rows, statement-rows, script-rows, RowsEnough, LargestEnough}
-use Rattle.grammar.proofs.Post.{Fact, Ends, post-then, post-map, post-refused, post-need, post-choose, post-build, match-each, end, _▹_}
+use Rattle.grammar.proofs.Post.{Fact, post-then, post-map, post-refused, post-need, post-choose, post-build, match-each, end, _▹_}
 use Rattle.grammar.proofs.Steps.{step-on, step-up}
-use Rattle.grammar.proofs.Turns.{Valid, in-step, goes-forward, post-entry}
+use Rattle.grammar.proofs.Turns.{Valid, statement-eof, in-step, goes-forward, post-entry}
 use Rattle.grammar.proofs.Runs.{Ahead, up₀, up}
-use Rattle.grammar.proofs.Enough.{Spares, Paid, Took, past, row, Then, Takes, Reads, rec-then, list-paid}
-use Rattle.grammar.proofs.Enough.{expression-spares, but-at-eof, expression-reads}
+use Rattle.grammar.proofs.Enough.{Spared, Spares, Paid, Took, past, row, Then, Takes, Reads, rec-then, list-paid}
+use Rattle.grammar.proofs.Enough.{but-at-eof, expression-reads}
 
 -- From the place s with n rows: now c is current, m rows are left, and two for each token up to c are no fewer than were taken.
 pub record Spent (ts : List ℕ) (s n : ℕ) (t : Tree) (c m : ℕ) : Type 0 where
   pub within : c < length ts
   pub fits : 2 * s + n ≤ 2 * step ts c + m
 
--- The same in a statement with a block: k rows fewer, where at least four are saved, so that four fewer are enough.
+-- The same in a statement with a block, where k rows are saved: four by its first two signs, so that four fewer are enough.
 record Twice (ts : List ℕ) (s n k c m : ℕ) : Type 0 where
   within : c < length ts
   given : 2 * length ts ≤ 2 * s + n + 6
@@ -187,7 +187,7 @@ module _ (ts : List ℕ) (v : Valid ts) (expr : Rec) (expr-reads : (pre : ℕ) �
 
   ruleset steps = (post-refused, post-need, post-choose, up₀, up, row, expr-then)
 
-  alone-keeps : (made : ℕ → Tree) (number : ℕ) → eqb number NoRow ≡ false → Keeps (alone ts expr stmt made number)
+  alone-keeps : (made : ℕ → Tree) (number : ℕ) → Spared number → Keeps (alone ts expr stmt made number)
   unfolding alone
   alone-keeps made number z = simply (alone ts expr stmt made number) (λ at room r. search steps)
 
@@ -234,17 +234,10 @@ module _ (ts : List ℕ) (v : Valid ts) (expr : Rec) (expr-reads : (pre : ℕ) �
   level-states at room s = post-choose _ _ _ _ _ (λ e. (s .within, omega (arith, s .on)))
       (λ e. post-then _ _ _ _ _ (kept-keeps at room s) (λ t c m q. (q .within, q .fits)))
 
--- At EOF a statement is refused, and not for want of a row.
-statement-spares : (ts : List ℕ) (v : Valid ts) (d at room : ℕ) → tok ts at ≡ EOF → Spares (λ us c m. ⊥) (statement ts d at room)
-unfolding statement level kept match choose is expression-statement
-statement-spares ts v zero at room q = refl
-statement-spares ts v (suc d) at room q =
-    rw q (post-then _ _ _ _ _ (post-then _ _ _ _ _ (expression-spares ts v d Zero at room q) (λ t c m z. absurd z)) (λ t c m z. absurd z))
-
 statement-states : (ts : List ℕ) (v : Valid ts) (d : ℕ) → States ts (statement ts d)
 unfolding statement
 statement-states ts v zero at room h g = refl
-statement-states ts v (suc d) at room h g = but-at-eof ts v (Stated ts at room) at (statement ts (suc d) at room) (statement-spares ts v (suc d) at room) (λ n.
+statement-states ts v (suc d) at room h g = but-at-eof ts (Stated ts at room) at (statement ts (suc d) at room) (statement-eof ts at _ refl refl (suc d) room) (λ n.
     let lt = goes-forward ts v at h (inl n) in
     let k = in-step ts at h in
     level-states ts v (expression ts d) (expression-reads ts v d) (statement ts d) (statement-states ts v d) at room

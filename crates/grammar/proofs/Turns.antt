@@ -9,7 +9,7 @@ use lib.Dec.{eqb, ltb, leb}
 use lib.ListN.{length, getD}
 use borrow.Author.Tests.{ltb-true, ltb-false, leb-true, eqb-true, eqb-false}
 use Rattle.grammar.specs.Words.{valid as good, Zero, EOF, tok, step, is, next-is, class, order, goes-on}
-use Rattle.grammar.specs.Parsed.{Parsed, refused, read, _>>=_, _>>_, Check, met, failed, need, choose, match, turns, BadArray}
+use Rattle.grammar.specs.Parsed.{Parsed, refused, read, _>>=_, _>>_, Check, met, failed, need, choose, match, turns, BadArray, TooDeep, InvalidToken}
 use Rattle.grammar.specs.Expressions as e
 use Rattle.grammar.specs.Statements as s
 use Rattle.grammar.specs.Script.{longest, both, words-good, array-good}
@@ -48,17 +48,18 @@ valid ts e =
 pub no-end : (pre w : ℕ) → goes-on pre w ≡ true → ¬ (w ≡ EOF)
 no-end pre w g q = let f : true ≡ false = sym g ∙ zero-stops pre w (ap order q ∙ others .end) in let z : _≡_ {A = ℕ} 0 1 = cc in omega arith
 
--- Nothing is read at EOF.
+-- Nothing is read at EOF: what is refused there is refused with one of two numbers.
 module _ (ts : List ℕ) (at : ℕ) where
-  pub expression-eof : (d pre room : ℕ) → tok ts at ≡ EOF → Post (λ t c m. ⊥) (e.expression ts d pre at room)
-  unfolding e.expression e.level e.prefix-part match choose e.no-prefix class _>>=_
-  expression-eof zero pre room q = refl
-  expression-eof (suc d) pre room q = rw q
+  module _ (B : ℕ → Type 0) (deep : B TooDeep) (token : B InvalidToken) where
+    pub expression-eof : (d pre room : ℕ) → tok ts at ≡ EOF → Ends B (λ t c m. ⊥) (e.expression ts d pre at room)
+    unfolding e.expression e.level e.prefix-part match choose e.no-prefix class _>>=_
+    expression-eof zero pre room q = deep
+    expression-eof (suc d) pre room q = rw q token
 
-  pub statement-eof : (d room : ℕ) → tok ts at ≡ EOF → Post (λ us c m. ⊥) (s.statement ts d at room)
-  unfolding s.statement s.level s.kept match choose is s.expression-statement
-  statement-eof zero room q = refl
-  statement-eof (suc d) room q = rw q (post-then _ _ _ _ _ (post-then _ _ _ _ _ (expression-eof d Zero room q) (λ t c m z. absurd z)) (λ t c m z. absurd z))
+    pub statement-eof : (d room : ℕ) → tok ts at ≡ EOF → Ends B (λ us c m. ⊥) (s.statement ts d at room)
+    unfolding s.statement s.level s.kept match choose is s.expression-statement
+    statement-eof zero room q = deep
+    statement-eof (suc d) room q = rw q (post-then _ _ _ _ _ (post-then _ _ _ _ _ (expression-eof d Zero room q) (λ t c m z. absurd z)) (λ t c m z. absurd z))
 
   pub not-at-eof : {A : Type 0} (Q : Fact A) (x : Parsed A) → Post Q x → (tok ts at ≡ EOF → Post (λ a c m. ⊥) x)
       → Post (λ a c m. Q a c m × ¬ (tok ts at ≡ EOF)) x
