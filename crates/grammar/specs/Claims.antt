@@ -87,11 +87,11 @@ NeverUnreached =
 abbrev pub tokens-from : List ℕ → ℕ → ℕ
 tokens-from ts start = length ts - 1 - start
 
--- Rows that are enough for an expression of n tokens or fewer: one for each.
+-- Rows that are enough for an expression, where n tokens come before EOF: one for each.
 abbrev pub expression-rows : ℕ → ℕ
 expression-rows n = n
 
--- Rows that are enough for a statement: one for each token and one for the statement, or two for each token but the first two.
+-- Rows that are enough for a statement: one for each token and one for the statement, or two for each token but the first two; none for no token.
 abbrev pub statement-rows : ℕ → ℕ
 statement-rows n = min (2 * n) (max (n + 1) (2 * n - 4))
 
@@ -99,7 +99,7 @@ statement-rows n = min (2 * n) (max (n + 1) (2 * n - 4))
 abbrev pub script-rows : ℕ → ℕ
 script-rows n = 2 * n + 1
 
--- With so many rows no entry answers that a row is lacking.
+-- With so many rows no entry refuses for want of a row, whatever the array.
 abbrev pub RowsEnough : Type 0
 RowsEnough =
     (ts : List ℕ) (start room place : ℕ)
