@@ -16,10 +16,10 @@ use Rattle.grammar.specs.Parsed.{Parsed, Reader, _>>=_, turns, BreakWith
 use Rattle.grammar.specs.Expressions.{Rec, list-expr, expression}
 use Rattle.grammar.specs.Statements.{statements, opened, block, assert, function, else, if, value, var, const, while, return, foreach, for}
 use Rattle.grammar.specs.Statements.{throw, finally, try, expression-statement, alone, begun, kept, level, statement}
-use Rattle.grammar.proofs.Post.{Fact, Post, post-then, post-map, post-refused, post-need, post-choose, end, _▹_}
+use Rattle.grammar.proofs.Post.{Fact, Post, post-then, post-map, post-refused, post-need, post-choose, match-each, end, _▹_}
 use Rattle.grammar.proofs.Steps.{step-on}
 use Rattle.grammar.proofs.Turns.{Valid, goes-forward, enough, statement-eof, not-at-eof}
-use Rattle.grammar.proofs.Runs.{Run, Above, Ahead, start, up₀, up, both, later, Hands, hands, Reads, shut-hands, begun-at, match-reads}
+use Rattle.grammar.proofs.Runs.{Run, Above, Ahead, start, up₀, up, both, later, Hands, hands, Reads, shut-hands, begun-at}
 use Rattle.grammar.proofs.Runs.{single, listed, row-of, row-list, rec-then, list-then, expression-runs}
 
 -- What a statement's reader gives: and it reads nothing at EOF.
@@ -36,7 +36,7 @@ module _ (ts : List ℕ) (v : Valid ts) (expr : Rec) (expr-runs : (pre at room :
     exprs-then = list-then ts v expr expr-runs
 
     stmt-then : (A : Type 0) (at room : ℕ) → Hands ts A listed at room (stmt at room)
-    stmt-then A at room = hands ts A listed at room _ (λ h. post-map _ _ (stmt at room) (stmt-runs at room h) (λ us c m q. q .0))
+    stmt-then A at room = hands ts A listed at room _ (λ h. post-map _ _ _ (stmt at room) (stmt-runs at room h) (λ us c m q. q .0))
 
     -- Behind a statement the cursor goes on.
     stmt-on : (at room : ℕ) (us : Trees) (c m : ℕ) → at < length ts → Stated ts at room us c m → at < step ts c
@@ -50,16 +50,16 @@ module _ (ts : List ℕ) (v : Valid ts) (expr : Rec) (expr-runs : (pre at room :
         → Post (Run ts s n) (statements ts expr stmt close i list at room)
     unfolding statements is
     statements-runs close zero s n list at room r f = absurd (omega (arith, r .within))
-    statements-runs close (suc i) s n list at room r f = post-choose _ _ _ _ (λ e. r) (λ e. post-choose _ _ _ _
+    statements-runs close (suc i) s n list at room r f = post-choose _ _ _ _ _ (λ e. r) (λ e. post-choose _ _ _ _ _
         (λ e′.
         let lt : at < step ts at = goes-forward ts v at (r .within) (inl (λ q. eqb-false SSemiColon EOF refl (sym (eqb-true _ _ e′) ∙ q))) in
         statements-runs close i s n list (step ts at) room (later ts r (up ts _ _ (up₀ ts at))) (omega arith))
-        (λ e′. post-then _ _ _ _ (stmt-runs at room (r .within)) (λ us c m q. statements-runs close i s n (join list us) (step ts c) m
+        (λ e′. post-then _ _ _ _ _ (stmt-runs at room (r .within)) (λ us c m q. statements-runs close i s n (join list us) (step ts c) m
         (later ts (both ts r (up₀ ts at) (q .0)) (up ts _ _ (up₀ ts c))) (omega (arith, stmt-on at room us c m (r .within) q)))))
 
     statements-then : {A : Type 0} (R : Fact A) (f : Trees × ℕ × ℕ → Parsed A) (close s n : ℕ) (list : Trees) (c at room : ℕ) → Run ts s n list c room → Ahead ts c at
         → ((all : Trees) (c m : ℕ) → Run ts s n all c m → Post R (f (all, c, m))) → Post R (statements ts expr stmt close turns list at room >>= f)
-    statements-then R f close s n list c at room r h k = post-then _ R _ f (statements-runs close turns s n list at room (later ts r h) (enough ts v at)) k
+    statements-then R f close s n list c at room r h k = post-then _ _ R _ f (statements-runs close turns s n list at room (later ts r h) (enough ts v at)) k
 
     ruleset parts = (post-refused, post-need, post-choose, row-of, row-list, up₀, up, expr-then, exprs-then, stmt-then, statements-then)
 
@@ -141,11 +141,11 @@ module _ (ts : List ℕ) (v : Valid ts) (expr : Rec) (expr-runs : (pre at room :
 
     begun-runs : (f : Reader tree.Tree) → Reads ts f → Reads ts (begun ts expr stmt f)
     unfolding begun
-    begun-runs f p at room h = post-need _ _ _ _ _ refl (λ e. p at room h)
+    begun-runs f p at room h = post-need _ _ _ _ _ _ refl (λ e. p at room h)
 
     kept-runs : Reads ts (kept ts expr stmt)
     unfolding kept
-    kept-runs at room h = match-reads ts (tok ts at) (expression-statement ts expr stmt)
+    kept-runs at room h = match-each _ _ _ (tok ts at) (expression-statement ts expr stmt)
         (alone-runs 32 BreakWithoutSemicolon refl refl ▹ alone-runs 33 ContinueWithoutSemicolon refl refl ▹ begun-runs _ (begun-at ts (var ts expr stmt) var-runs)
         ▹ begun-runs _ (begun-at ts (const ts expr stmt) const-runs) ▹ begun-runs _ if-runs ▹ begun-runs _ assert-runs ▹ begun-runs _ while-runs ▹ return-runs
         ▹ begun-runs _ (begun-at ts (function ts expr stmt) function-runs) ▹ begun-runs _ for-runs ▹ begun-runs _ throw-runs ▹ begun-runs _ try-runs ▹ begun-runs _ foreach-runs ▹ end)
@@ -153,10 +153,10 @@ module _ (ts : List ℕ) (v : Valid ts) (expr : Rec) (expr-runs : (pre at room :
 
     level-runs : (at room : ℕ) → at < length ts → Post (Run ts at room) (level ts expr stmt at room)
     unfolding level
-    level-runs at room h = post-choose _ _ _ _ (λ e. start ts at room h) (λ e. post-then _ _ _ _ (kept-runs at room h) (λ t c m q. q .run))
+    level-runs at room h = post-choose _ _ _ _ _ (λ e. start ts at room h) (λ e. post-then _ _ _ _ _ (kept-runs at room h) (λ t c m q. q .run))
 
 pub statement-runs : (ts : List ℕ) (v : Valid ts) (d at room : ℕ) → at < length ts → Post (Stated ts at room) (statement ts d at room)
 unfolding statement
 statement-runs ts v zero at room h = refl
 statement-runs ts v (suc d) at room h = not-at-eof ts at (Run ts at room) (statement ts (suc d) at room)
-    (level-runs ts v (expression ts d) (expression-runs ts v d) (statement ts d) (statement-runs ts v d) at room h) (statement-eof ts at (suc d) room)
+    (level-runs ts v (expression ts d) (expression-runs ts v d) (statement ts d) (statement-runs ts v d) at room h) (statement-eof ts at _ refl refl (suc d) room)

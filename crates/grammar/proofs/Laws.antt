@@ -21,20 +21,20 @@ use Rattle.grammar.proofs.Blocks.{statements-runs, statement-runs}
 module _ (ts : List ℕ) (at room : ℕ) where
   pub expression-entry : Post (Run ts at room) (one-expression ts at room)
   unfolding one-expression
-  expression-entry = post-entry ts _ _ (λ v. post-need _ _ _ _ _ refl (λ e.
-      post-then _ _ _ _ (expression-runs ts v nesting Zero at room (ltb-true at (length ts) e)) (λ t c m h. h .run)))
+  expression-entry = post-entry _ refl ts _ _ (λ v. post-need _ _ _ _ _ _ refl (λ e.
+      post-then _ _ _ _ _ (expression-runs ts v nesting Zero at room (ltb-true at (length ts) e)) (λ t c m h. h .run)))
 
   pub statement-entry : Post (Run ts at room) (one-statement ts at room)
   unfolding one-statement
-  statement-entry = post-entry ts _ _ (λ v. post-need _ _ _ _ _ refl (λ e.
-      post-map _ _ (statement ts nesting at room) (statement-runs ts v nesting at room (ltb-true at (length ts) e)) (λ us c m h. h .0)))
+  statement-entry = post-entry _ refl ts _ _ (λ v. post-need _ _ _ _ _ _ refl (λ e.
+      post-map _ _ _ (statement ts nesting at room) (statement-runs ts v nesting at room (ltb-true at (length ts) e)) (λ us c m h. h .0)))
 
 pub script-entry : (ts : List ℕ) (room : ℕ) → Post (Run ts 0 room) (whole-script ts room)
 unfolding whole-script join
-script-entry ts room = post-entry ts _ _ (λ v. post-then _ _ _ _
+script-entry ts room = post-entry _ refl ts _ _ (λ v. post-then _ _ _ _ _
     (statements-runs ts v (expression ts nesting) (expression-runs ts v nesting) (statement ts nesting) (statement-runs ts v nesting) EOF turns 0 room nil 0 room
     (start ts 0 room (v .some)) (enough ts v 0))
-    (λ list c m r. post-then _ _ _ _ (row-list ts 46 0 0 c list nil nil nil r (up₀ ts c) refl refl) (λ t c m h. h .run)))
+    (λ list c m r. post-then _ _ _ _ _ (row-list ts 46 0 0 c list nil nil nil r (up₀ ts c) refl refl) (λ t c m h. h .run)))
 
 of-entries : OfEntries (λ ts start room us at left. Run ts start room us at left)
 of-entries ts start room us at left =

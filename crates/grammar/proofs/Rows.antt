@@ -199,7 +199,7 @@ pool-rows ts words (read us at room) h r lo e = go (decLt (sizes us) r)
 
 pub pool-rule : PoolKeepsRule
 pool-rule ts start room words = (
-  pool-rows ts words _ (post-map (Run ts start room) _ (one-expression ts start room) (expression-entry ts start room) (λ us c m h. h .kept)),
-  pool-rows ts words _ (post-map (Run ts start room) _ (one-statement ts start room) (statement-entry ts start room) (λ us c m h. h .kept)),
-  pool-rows ts words _ (post-map (Run ts 0 room) _ (whole-script ts room) (script-entry ts room) (λ us c m h. h .kept)),
+  pool-rows ts words _ (post-map _ (Run ts start room) _ (one-expression ts start room) (expression-entry ts start room) (λ us c m h. h .kept)),
+  pool-rows ts words _ (post-map _ (Run ts start room) _ (one-statement ts start room) (statement-entry ts start room) (λ us c m h. h .kept)),
+  pool-rows ts words _ (post-map _ (Run ts 0 room) _ (whole-script ts room) (script-entry ts room) (λ us c m h. h .kept)),
 )

@@ -12,12 +12,12 @@ use lib.ListN.{length, List·getD-eq-default}
 use Rattle.grammar.specs.Words.{SSemiColon, SComma, SDot, EOF, tok, step, is, next-is, Zero, order, infix-of, goes-on}
 use Rattle.grammar.specs.Tree.{Tree, infixed, node, Trees, nil, _▸_, sizes, join, leaf, flagged, flag, Thread, Async, Grouped, is-call}
 use Rattle.grammar.specs.Tree as tree
-use Rattle.grammar.specs.Parsed.{Parsed, Reader, read, _>>=_, build, Arm, match, turns}
+use Rattle.grammar.specs.Parsed.{Parsed, Reader, read, _>>=_, build, match, turns}
 use Rattle.grammar.specs.Expressions.{Rec, get-identifier, dots, dot-expression, no-prefix, entries, list-expr, pair, hash-literal, array}
 use Rattle.grammar.specs.Expressions.{lambda, started, prefix, sub-expression, command, shell, prefix-part, infix-expression, suffix-expression}
 use Rattle.grammar.specs.Expressions.{call, index, operation, climb, level, expression}
 use Rattle.grammar.specs.Claims.{Binds, EveryOf, KeepsBut}
-use Rattle.grammar.proofs.Post.{Fact, Post, post-then, post-map, post-refused, post-need, post-choose, post-build, Arms, end, _▹_}
+use Rattle.grammar.proofs.Post.{Fact, Numbered, Post, post-then, post-map, post-refused, post-need, post-choose, post-build, Each, match-each, end, _▹_}
 use Rattle.grammar.proofs.Steps.{step-on, step-one, infix-order, others, halts, goes, infix-facts}
 use Rattle.grammar.proofs.Turns.{Valid, no-end, in-step, goes-forward, behind, enough, expression-eof}
 use borrow.Author.Tests.{lt-ltb, eqb-true}
@@ -131,12 +131,12 @@ module _ (ts : List ℕ) where
       → ((b : B) (c m : ℕ) → Run ts s n (join us (trees b)) c m → Post R (f (b, c, m))) → Post R (x >>= f)
 
   pub hands : {B : Type 0} (A : Type 0) (trees : B → Trees) (at room : ℕ) (x : Parsed B) → (at < length ts → Post (λ b. Run ts at room (trees b)) x) → Hands A trees at room x
-  hands A trees at room x p R f s n c us r h k = post-then _ R x f (p (h .stays (r .within))) (λ b c m q. k b c m (both r h q))
+  hands A trees at room x p R f s n c us r h k = post-then _ _ R x f (p (h .stays (r .within))) (λ b c m q. k b c m (both r h q))
 
   -- The rule for a reader that ends in a row: what was read is what stands in its slots.
   pub row-of : {s n c room : ℕ} {us : Trees} (k mark p at : ℕ) (c0 c1 c2 c3 : Trees) → Run ts s n us c room → Ahead ts c at → us ≡ join c0 (join c1 (join c2 c3))
       → eqb k 12 ≡ false → Post (Shut ts s n) (build (node k mark p c0 c1 c2 c3) at room)
-  row-of k mark p at c0 c1 c2 c3 x h e other = post-build _ (node k mark p c0 c1 c2 c3) at _ (λ m q.
+  row-of k mark p at c0 c1 c2 c3 x h e other = post-build _ _ (node k mark p c0 c1 c2 c3) at _ (λ z. refl) (λ m q.
       let (a, bcd) = every-split (KeepsBut ts) c0 (join c1 (join c2 c3)) (rw e at (x .kept)) in
       let (b, cd) = every-split (KeepsBut ts) c1 (join c2 c3) bcd in
       let (c′, d) = every-split (KeepsBut ts) c2 c3 cd in
@@ -158,23 +158,18 @@ module _ (ts : List ℕ) where
 
   -- A reader of one tree that is no infix row without brackets.
   abbrev pub Reads : Reader Tree → Type 0
-  Reads f = (at room : ℕ) → at < length ts → Post (Shut ts at room) (f at room)
+  Reads f = Each Numbered (λ at room. at < length ts) (Shut ts) f
 
   read-runs : (f : Reader Tree) → Reads f → (at room : ℕ) → at < length ts → Post (λ t. Run ts at room (t ▸ nil)) (f at room)
-  read-runs f p at room h = post-map _ _ (f at room) (p at room h) (λ t c m q. q .run)
+  read-runs f p at room h = post-map _ _ _ (f at room) (p at room h) (λ t c m q. q .run)
 
   pub shut-hands : (A : Type 0) (f : Reader Tree) (at room : ℕ) → Reads f → Hands A single at room (f at room)
   shut-hands A f at room p = hands A single at room (f at room) (read-runs f p at room)
 
-  -- A reader that starts a step on, and a match of readers.
+  -- A reader that starts a step on.
   pub begun-at : (f : Reader Tree) → Reads f → Reads (λ at. f (step ts at))
-  begun-at f p at room h = post-map _ _ (f (step ts at) room) (p (step ts at) room (in-step ts at h)) (λ t c m q.
+  begun-at f p at room h = post-map _ _ _ (f (step ts at) room) (p (step ts at) room (in-step ts at h)) (λ t c m q.
       record { run = from (step-on ts at) (q .run); shut = q .shut })
-
-  pub match-reads : {arms : List (Arm Tree)} (w : ℕ) (other : Reader Tree) → Arms Reads arms → Reads other → Reads (match w arms other)
-  unfolding match
-  match-reads w other end h at room k = h at room k
-  match-reads w other (r ▹ rs) h at room k = post-choose _ _ _ _ (λ e. r at room k) (λ e. match-reads w other rs h at room k)
 
   -- A call that is started, and a tree in brackets, get their flags.
   flag-call : (f : ℕ) {s n c m : ℕ} {t : Tree} → Run ts s n (t ▸ nil) c m → is-call t ≡ true → Shut ts s n (flagged f t) c m
@@ -202,7 +197,7 @@ module _ (ts : List ℕ) where
   shut-behind pre q = record { run = q .run; root = q .shut (suc pre); left = inl (q .shut _) }
 
   post-behind : (pre s n : ℕ) (x : Parsed Tree) → Post (Shut ts s n) x → Post (Behind ts pre s n) x
-  post-behind pre s n x h = post-map _ _ x h (λ t c m. shut-behind pre)
+  post-behind pre s n x h = post-map _ _ _ x h (λ t c m. shut-behind pre)
 
   -- The left side of an infix row, whose operator comes next.
   looser : (t : Tree) (c : ℕ) → Binds ts (infix-order (tok ts (step ts c))) t ⊎ (tok ts c ≡ SSemiColon) → 0 < infix-of (tok ts (step ts c))
@@ -229,10 +224,10 @@ module _ (ts : List ℕ) where
     dots-runs : (i s n : ℕ) (names : Trees) (at room : ℕ) → Run ts s n names at room → length ts ≤ i + at → Post (Run ts s n) (dots ts i names at room)
     unfolding dots
     dots-runs zero s n names at room r f = absurd (omega (arith, r .within))
-    dots-runs (suc i) s n names at room r f = post-choose _ _ _ _
+    dots-runs (suc i) s n names at room r f = post-choose _ _ _ _ _
         (λ e.
         let on : Ahead ts at (step ts (step ts at)) = up _ _ (up _ _ (up₀ at)) in
-        post-then _ _ _ _ (identifier-runs 18 refl (step ts (step ts at)) room (on .stays (r .within)))
+        post-then _ _ _ _ _ (identifier-runs 18 refl (step ts (step ts at)) room (on .stays (r .within)))
         (λ t c m q. dots-runs i s n (join names (t ▸ nil)) c m (both r on (q .run)) (omega (arith, q .run .on, behind ts v at SDot (r .within) refl e))))
         (λ e. r)
 
@@ -243,11 +238,11 @@ module _ (ts : List ℕ) where
 
     dot-runs : Reads (dot-expression ts)
     unfolding dot-expression join
-    dot-runs at room h = post-then _ _ _ _ (identifier-runs 2 refl at room h) (λ t c m q. let r = q .run in search parts depth 9)
+    dot-runs at room h = post-then _ _ _ _ _ (identifier-runs 2 refl at room h) (λ t c m q. let r = q .run in search parts depth 9)
 
     module _ (rec : Rec) (ih : (pre at room : ℕ) → at < length ts → Post (Above ts pre at room) (rec pre at room)) where
       rec-runs : (pre at room : ℕ) → at < length ts → Post (λ t. Run ts at room (t ▸ nil)) (rec pre at room)
-      rec-runs pre at room h = post-map _ _ (rec pre at room) (ih pre at room h) (λ t c m q. q .run)
+      rec-runs pre at room h = post-map _ _ _ (rec pre at room) (ih pre at room h) (λ t c m q. q .run)
 
       pub rec-then : (A : Type 0) (pre at room : ℕ) → Hands A single at room (rec pre at room)
       rec-then A pre at room = hands A single at room _ (rec-runs pre at room)
@@ -256,10 +251,10 @@ module _ (ts : List ℕ) where
           (at room : ℕ) → Run ts s n list at room → length ts ≤ i + at → Post (Run ts s n) (entries ts rec entry i list at room)
       unfolding entries
       entries-runs entry h zero s n list at room r f = absurd (omega (arith, r .within))
-      entries-runs entry h (suc i) s n list at room r f = post-choose _ _ _ _
+      entries-runs entry h (suc i) s n list at room r f = post-choose _ _ _ _ _
           (λ e.
           let on : Ahead ts at (step ts (step ts at)) = up _ _ (up _ _ (up₀ at)) in
-          post-then _ _ _ _ (h (step ts (step ts at)) room (on .stays (r .within)))
+          post-then _ _ _ _ _ (h (step ts (step ts at)) room (on .stays (r .within)))
           (λ t c m q. entries-runs entry h i s n (join list (t ▸ nil)) c m (both r on q) (omega (arith, q .on, behind ts v at SComma (r .within) refl e))))
           (λ e. r)
 
@@ -267,7 +262,7 @@ module _ (ts : List ℕ) where
       unfolding list-expr join
       list-runs at room h =
           let r = start at room h in
-          post-choose _ _ _ _ (λ e. r) (λ e. rec-then _ Zero _ _ _ _ at room at nil r (up _ _ (up₀ at))
+          post-choose _ _ _ _ _ (λ e. r) (λ e. rec-then _ Zero _ _ _ _ at room at nil r (up _ _ (up₀ at))
           (λ t c m q. entries-runs (rec Zero) (rec-runs Zero) turns at room (t ▸ nil) c m q (enough ts v c)))
 
       pub list-then : (A : Type 0) (at room : ℕ) → Hands A listed at room (list-expr ts rec at room)
@@ -285,7 +280,7 @@ module _ (ts : List ℕ) where
       pairs-then : {A : Type 0} (R : Fact A) (f : Trees × ℕ × ℕ → Parsed A) (s n : ℕ) (list : Trees) (at room : ℕ) → Run ts s n list at room
           → ((pairs : Trees) (c m : ℕ) → Run ts s n pairs c m → Post R (f (pairs, c, m))) → Post R (entries ts rec (pair ts rec) turns list at room >>= f)
       pairs-then R f s n list at room r k =
-          post-then _ R _ f (entries-runs (pair ts rec) (read-runs (pair ts rec) pair-runs) turns s n list at room r (enough ts v at)) k
+          post-then _ _ R _ f (entries-runs (pair ts rec) (read-runs (pair ts rec) pair-runs) turns s n list at room r (enough ts v at)) k
 
       hash-runs : Reads (hash-literal ts rec)
       unfolding hash-literal join
@@ -317,7 +312,7 @@ module _ (ts : List ℕ) where
 
       pub prefix-part-runs : Reads (prefix-part ts rec)
       unfolding prefix-part
-      prefix-part-runs at room h = match-reads (tok ts at) (no-prefix ts)
+      prefix-part-runs at room h = match-each _ _ _ (tok ts at) (no-prefix ts)
           (dot-runs ▹ leaf-runs 3 0 refl ▹ leaf-runs 4 0 refl ▹ leaf-runs 5 0 refl ▹ leaf-runs 6 0 refl ▹ leaf-runs 7 1 refl ▹ leaf-runs 7 0 refl ▹ lambda-runs
           ▹ leaf-runs 1 0 refl ▹ started-runs Thread ▹ started-runs Async ▹ array-runs ▹ hash-runs ▹ prefix-runs 0 ▹ prefix-runs 1 ▹ prefix-runs 2 ▹ prefix-runs 3
           ▹ sub-runs ▹ shell-runs ▹ end)
@@ -327,8 +322,8 @@ module _ (ts : List ℕ) where
         infix-runs : 0 < infix-of (tok ts (step ts c)) → pre < order (tok ts (step ts c))
             → Post (Behind ts pre (step ts c) n) (infix-expression ts rec t (step ts c) m)
         unfolding infix-expression
-        infix-runs i lt = post-then _ _ _ _ (ih (order (tok ts (step ts c))) (step ts (step ts c)) m (in-step ts _ (in-step ts c (b .run .within)))) (λ r c′ m′ a.
-            post-build _ _ c′ m′ (λ m″ e. record {
+        infix-runs i lt = post-then _ _ _ _ _ (ih (order (tok ts (step ts c))) (step ts (step ts c)) m (in-step ts _ (in-step ts c (b .run .within)))) (λ r c′ m′ a.
+            post-build _ _ _ c′ m′ (λ z. refl) (λ m″ e. record {
               run = record {
                 on = omega (arith, a .run .on, step-on ts (step ts c));
                 within = a .run .within;
@@ -348,26 +343,26 @@ module _ (ts : List ℕ) where
               spent = b .run .spent;
               kept = b .run .kept;
             } in
-            post-choose _ _ _ _ (λ e. search (post-behind, walk)) λ e₁.
-            post-choose _ _ _ _ (λ e. search (post-behind, walk)) λ e₂.
-            post-choose _ _ _ _ (λ e. search (post-behind, walk) depth 9) λ e₃.
-            post-choose _ _ _ _ (λ e. search (post-behind, walk) depth 9) λ e₄.
+            post-choose _ _ _ _ _ (λ e. search (post-behind, walk)) λ e₁.
+            post-choose _ _ _ _ _ (λ e. search (post-behind, walk)) λ e₂.
+            post-choose _ _ _ _ _ (λ e. search (post-behind, walk) depth 9) λ e₃.
+            post-choose _ _ _ _ _ (λ e. search (post-behind, walk) depth 9) λ e₄.
             let f = goes pre (tok ts (step ts c)) g e₁ e₂ e₃ e₄ in
             infix-runs (f .0) (f .1)
 
       climb-runs : (pre i s n : ℕ) (t : Tree) (c m : ℕ) → Behind ts pre s n t c m → length ts ≤ i + c → Post (Above ts pre s n) (climb ts rec pre i t c m)
       unfolding climb
       climb-runs pre zero s n t c m b f = absurd (omega (arith, b .run .within))
-      climb-runs pre (suc i) s n t c m b f = post-choose _ _ _ _
+      climb-runs pre (suc i) s n t c m b f = post-choose _ _ _ _ _
           (λ g.
           let lt : c < step ts c = goes-forward ts v c (b .run .within) (inr (no-end pre (tok ts (step ts c)) g)) in
-          post-then _ _ _ _ (operation-runs pre s n t c m b g) (λ t′ c′ m′ q. climb-runs pre i s n t′ c′ m′
+          post-then _ _ _ _ _ (operation-runs pre s n t c m b g) (λ t′ c′ m′ q. climb-runs pre i s n t′ c′ m′
           (record { run = from (omega (arith, b .run .on)) (q .run); root = q .root; left = q .left }) (omega (arith, q .run .on))))
           (λ g. record { run = b .run; root = b .root; stops = inl (halts pre (tok ts (step ts c)) g) })
 
       level-runs : (pre at room : ℕ) → at < length ts → Post (Above ts pre at room) (level ts rec pre at room)
       unfolding level next-is is
-      level-runs pre at room h = post-then _ _ _ _ (prefix-part-runs at room h) (λ t c m q. post-choose _ _ _ _
+      level-runs pre at room h = post-then _ _ _ _ _ (prefix-part-runs at room h) (λ t c m q. post-choose _ _ _ _ _
           (λ e. record { run = later (q .run) (up _ _ (up₀ c)); root = q .shut (suc pre); stops = inr (eqb-true _ _ e) })
           (λ e. climb-runs pre turns at room t c m (shut-behind pre q) (enough ts v c)))
 
@@ -386,5 +381,5 @@ module _ (ts : List ℕ) where
         go (yes lt) = (omega arith, lt, rw h at (expression-runs (suc d) pre s n lt))
         go (no ge) =
             let le : length ts ≤ s = omega arith in
-            let f : Post (λ t c m. ⊥) (read t c m) = rw h at (expression-eof ts s (suc d) pre n (List·getD-eq-default ts EOF le)) in
+            let f : Post (λ t c m. ⊥) (read t c m) = rw h at (expression-eof ts s Numbered refl refl (suc d) pre n (List·getD-eq-default ts EOF le)) in
             absurd f

@@ -4,6 +4,7 @@ use mathlib.Core.Path.{_≡_, refl, sym, ap, _∙_}
 use mathlib.Core.Bool.{Bool, true, false, cond, not, _&&_, _||_, and-eq-true-iff}
 use mathlib.Core.List.{List, [], _∷_}
 use native.Mathlib.Omega.{arith}
+use native.Mathlib.Decide.{decLt}
 use lib.Dec.{eqb, ltb, leb}
 use lib.ListN.{length, getD}
 use borrow.Author.Tests.{ltb-true, ltb-false, leb-true, eqb-true, ne-eqb, lt-ltb, le-ltb}
@@ -19,6 +20,22 @@ step-on ts at = go (ltb (at + 1) (length ts))
     go : (b : Bool) → at ≤ cond b (at + 1) at
     go true = omega arith
     go false = omega arith
+
+-- A step goes no more than one on, and a later place has a later one behind it.
+step-most : (ts : List ℕ) (at : ℕ) → step ts at ≤ at + 1
+unfolding step
+step-most ts at = go (ltb (at + 1) (length ts))
+  where
+    go : (b : Bool) → cond b (at + 1) at ≤ at + 1
+    go true = omega arith
+    go false = omega arith
+
+pub step-up : (ts : List ℕ) (a b : ℕ) → a ≤ b → step ts a ≤ step ts b
+step-up ts a b h = go (decLt a b)
+  where
+    go : Dec (a < b) → step ts a ≤ step ts b
+    go (yes lt) = omega (arith, step-most ts a, step-on ts b)
+    go (no ge) = let e : a ≡ b = omega arith in rw e (omega arith)
 
 -- Where the word behind a place is another than the one there, it stands one on.
 pub step-one : (ts : List ℕ) (at w : ℕ) → (tok ts at ≡ w → ⊥) → tok ts (step ts at) ≡ w → step ts at ≡ at + 1

@@ -9,12 +9,12 @@ use lib.Dec.{eqb, ltb, leb}
 use lib.ListN.{length, getD}
 use borrow.Author.Tests.{ltb-true, ltb-false, leb-true, eqb-true, eqb-false}
 use Rattle.grammar.specs.Words.{valid as good, Zero, EOF, tok, step, is, next-is, class, order, goes-on}
-use Rattle.grammar.specs.Parsed.{Parsed, refused, read, _>>=_, _>>_, Check, met, failed, need, choose, match, turns, BadArray}
+use Rattle.grammar.specs.Parsed.{Parsed, refused, read, _>>=_, _>>_, Check, met, failed, need, choose, match, turns, BadArray, TooDeep, InvalidToken}
 use Rattle.grammar.specs.Expressions as e
 use Rattle.grammar.specs.Statements as s
 use Rattle.grammar.specs.Script.{longest, both, words-good, array-good}
 use Rattle.grammar.proofs.Checks.{both-met, need-met}
-use Rattle.grammar.proofs.Post.{Fact, Post, post-then}
+use Rattle.grammar.proofs.Post.{Fact, Ends, Post, post-then}
 use Rattle.grammar.proofs.Steps.{others, step-on, zero-stops}
 
 -- What a valid array gives: it has words, no more than a loop has turns, and the last one is EOF.
@@ -48,17 +48,18 @@ valid ts e =
 pub no-end : (pre w : ℕ) → goes-on pre w ≡ true → ¬ (w ≡ EOF)
 no-end pre w g q = let f : true ≡ false = sym g ∙ zero-stops pre w (ap order q ∙ others .end) in let z : _≡_ {A = ℕ} 0 1 = cc in omega arith
 
--- Nothing is read at EOF.
+-- Nothing is read at EOF: what is refused there is refused with one of two numbers.
 module _ (ts : List ℕ) (at : ℕ) where
-  pub expression-eof : (d pre room : ℕ) → tok ts at ≡ EOF → Post (λ t c m. ⊥) (e.expression ts d pre at room)
-  unfolding e.expression e.level e.prefix-part match choose e.no-prefix class _>>=_
-  expression-eof zero pre room q = refl
-  expression-eof (suc d) pre room q = rw q
+  module _ (B : ℕ → Type 0) (deep : B TooDeep) (token : B InvalidToken) where
+    pub expression-eof : (d pre room : ℕ) → tok ts at ≡ EOF → Ends B (λ t c m. ⊥) (e.expression ts d pre at room)
+    unfolding e.expression e.level e.prefix-part match choose e.no-prefix class _>>=_
+    expression-eof zero pre room q = deep
+    expression-eof (suc d) pre room q = rw q token
 
-  pub statement-eof : (d room : ℕ) → tok ts at ≡ EOF → Post (λ us c m. ⊥) (s.statement ts d at room)
-  unfolding s.statement s.level s.kept match choose is s.expression-statement
-  statement-eof zero room q = refl
-  statement-eof (suc d) room q = rw q (post-then _ _ _ _ (post-then _ _ _ _ (expression-eof d Zero room q) (λ t c m z. absurd z)) (λ t c m z. absurd z))
+    pub statement-eof : (d room : ℕ) → tok ts at ≡ EOF → Ends B (λ us c m. ⊥) (s.statement ts d at room)
+    unfolding s.statement s.level s.kept match choose is s.expression-statement
+    statement-eof zero room q = deep
+    statement-eof (suc d) room q = rw q (post-then _ _ _ _ _ (post-then _ _ _ _ _ (expression-eof d Zero room q) (λ t c m z. absurd z)) (λ t c m z. absurd z))
 
   pub not-at-eof : {A : Type 0} (Q : Fact A) (x : Parsed A) → Post Q x → (tok ts at ≡ EOF → Post (λ a c m. ⊥) x)
       → Post (λ a c m. Q a c m × ¬ (tok ts at ≡ EOF)) x
@@ -93,34 +94,34 @@ module _ (ts : List ℕ) (v : Valid ts) where
   pub enough : (at : ℕ) → length ts ≤ turns + at
   enough at = omega (arith, v .short)
 
--- A bad array is refused with a number too.
-abbrev Checked : Check → Type 0
-Checked met = Unit {0}
-Checked (failed n p) = ltb 0 n ≡ true
+-- A bad array is refused with one number.
+module _ (B : ℕ → Type 0) (bad : B BadArray) where
+  abbrev Checked : Check → Type 0
+  Checked met = Unit {0}
+  Checked (failed n p) = B n
 
-need-checked : (b : Bool) (n p : ℕ) → ltb 0 n ≡ true → Checked (need b n p)
-unfolding need
-need-checked true n p h = tt
-need-checked false n p h = h
+  need-checked : (b : Bool) (p : ℕ) → Checked (need b BadArray p)
+  unfolding need
+  need-checked true p = tt
+  need-checked false p = bad
 
-both-checked : (c c′ : Check) → Checked c → Checked c′ → Checked (both c c′)
-unfolding both
-both-checked met c′ h k = k
-both-checked (failed n p) c′ h k = h
+  both-checked : (c c′ : Check) → Checked c → Checked c′ → Checked (both c c′)
+  unfolding both
+  both-checked met c′ h k = k
+  both-checked (failed n p) c′ h k = h
 
-words-checked : (at : ℕ) (ws : List ℕ) → Checked (words-good at ws)
-unfolding words-good
-words-checked at [] = tt
-words-checked at (w ∷ []) = need-checked (eqb w EOF) BadArray at refl
-words-checked at (w ∷ v ∷ ws) =
-    both-checked _ (words-good (suc at) (v ∷ ws)) (need-checked (good w && not (eqb w EOF)) BadArray at refl) (words-checked (suc at) (v ∷ ws))
+  words-checked : (at : ℕ) (ws : List ℕ) → Checked (words-good at ws)
+  unfolding words-good
+  words-checked at [] = tt
+  words-checked at (w ∷ []) = need-checked (eqb w EOF) at
+  words-checked at (w ∷ v ∷ ws) =
+      both-checked _ (words-good (suc at) (v ∷ ws)) (need-checked (good w && not (eqb w EOF)) at) (words-checked (suc at) (v ∷ ws))
 
-pub post-entry : {A : Type 0} (ts : List ℕ) (R : Fact A) (x : Parsed A) → (Valid ts → Post R x) → Post R (array-good ts >> x)
-unfolding array-good _>>_
-post-entry ts R x h =
-    go (array-good ts) refl
-    (both-checked _ (words-good 0 ts) (need-checked (ltb 0 (length ts) && leb (length ts) longest) BadArray 0 refl) (words-checked 0 ts))
-  where
-    go : (c : Check) → array-good ts ≡ c → Checked c → Post R (c >> x)
-    go met e k = h (valid ts e)
-    go (failed n p) e k = k
+  pub post-entry : {A : Type 0} (ts : List ℕ) (R : Fact A) (x : Parsed A) → (Valid ts → Ends B R x) → Ends B R (array-good ts >> x)
+  unfolding array-good _>>_
+  post-entry ts R x h =
+      go (array-good ts) refl (both-checked _ (words-good 0 ts) (need-checked (ltb 0 (length ts) && leb (length ts) longest) 0) (words-checked 0 ts))
+    where
+      go : (c : Check) → array-good ts ≡ c → Checked c → Ends B R (c >> x)
+      go met e k = h (valid ts e)
+      go (failed n p) e k = k

@@ -1,15 +1,16 @@
--- The theorems used, on arrays written out; and that ten open expressions are needed.
-use Prim.Native.Nat.{ℕ, zero, suc, _+_, _*_, _≤_}
+-- The theorems used, on arrays written out; and that ten open expressions are needed, and all the rows that are said to be enough.
+use Prim.Native.Nat.{ℕ, zero, suc, _+_, _-_, _*_, _≤_}
 use mathlib.Core.Path.{_≡_, refl}
 use mathlib.Core.List.{List, [], _∷_}
 use native.Mathlib.Omega.{arith}
-use Rattle.grammar.specs.Words.{Operator, EOF, Identifier, SLParen, SRparen, SSemiColon, SEq, SLBox, SRBox, Zero, tok, step, is, next-is, class}
+use Rattle.grammar.specs.Words.{Operator, EOF, Identifier, SLParen, SRparen, SSemiColon, SEq, SLBrace, SIncr, SLBox, SRBox, KTry, Zero, tok, step, is, next-is, class}
 use Rattle.grammar.specs.Words.{code, by-code, orders, infixes, order, infix-of, operates, goes-on, codes, valid}
 use Rattle.grammar.specs.Tree.{infixed, identifier, call, index, nil, _▸_, join, flag, flagged, is-call}
-use Rattle.grammar.specs.Parsed.{refused, _>>=_, _>>_, need, build, choose, match, turns, TooDeep}
+use Rattle.grammar.specs.Parsed.{refused, _>>=_, _>>_, need, build, choose, match, turns, TooDeep, NoRow}
 use Rattle.grammar.specs.Expressions as e
-use Rattle.grammar.specs.Script.{nesting, longest, both, words-good, array-good}
-use Rattle.grammar.specs.Claims.{operand, sign, Grouping, one, more, an-identifier, by-semicolons, final, further, rows-of}
+use Rattle.grammar.specs.Statements as s
+use Rattle.grammar.specs.Script.{nesting, longest, both, words-good, array-good, one-expression, one-statement, whole-script}
+use Rattle.grammar.specs.Claims.{operand, sign, Grouping, one, more, an-identifier, by-semicolons, final, further, rows-of, tokens-from, expression-rows, statement-rows, script-rows}
 use Rattle.grammar.proofs.Chains.{chains}
 use Rattle.grammar.proofs.Operands.{operands}
 
@@ -54,3 +55,22 @@ nine-refused : e.expression rising 9 Zero 0 19 ≡ refused TooDeep 18
 unfolding tok step is next-is class code by-code orders infixes order infix-of operates goes-on _>>=_ _>>_ need build choose match turns
     e.get-identifier e.dot-expression e.prefix-part e.infix-expression e.operation e.climb e.level e.expression
 nine-refused = refl
+
+-- One row fewer than is always enough, and a row is lacking: a ++ ++; then a ++ ++ and try { a a a a as statements; and a a.
+abbrev signs : List ℕ
+signs = a ∷ SIncr ∷ SIncr ∷ EOF ∷ []
+
+abbrev names : List ℕ
+names = a ∷ a ∷ EOF ∷ []
+
+abbrev block : List ℕ
+block = KTry ∷ SLBrace ∷ a ∷ a ∷ a ∷ a ∷ EOF ∷ []
+
+lacking : (one-expression signs 0 (expression-rows (tokens-from signs 0) - 1) ≡ refused NoRow 2)
+    × (one-statement signs 0 (statement-rows (tokens-from signs 0) - 1) ≡ refused NoRow 2)
+    × (one-statement block 0 (statement-rows (tokens-from block 0) - 1) ≡ refused NoRow 5)
+    × (whole-script names (script-rows (tokens-from names 0) - 1) ≡ refused NoRow 2)
+unfolding tok step is next-is class code by-code orders infixes order infix-of operates goes-on codes valid join _>>=_ _>>_ need build choose match turns
+    nesting longest both words-good array-good one-expression one-statement whole-script e.get-identifier e.dot-expression e.prefix-part e.suffix-expression e.operation
+    e.climb e.level e.expression s.statements s.opened s.block s.try s.expression-statement s.begun s.kept s.level s.statement
+lacking = (refl, refl, refl, refl)

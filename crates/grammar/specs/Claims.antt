@@ -1,50 +1,18 @@
 -- What is claimed of the definition, each claim as a named type.
-use Prim.Native.Nat.{ℕ, suc, _+_, _-_, _*_, _%_, _≤_, _<_}
+use Prim.Native.Nat.{ℕ, suc, _+_, _-_, _*_, _%_, _≤_, _<_, min, max}
 use mathlib.Core.Path.{_≡_}
 use mathlib.Core.Bool.{false, cond}
-use mathlib.Core.List.{List, [], _∷_, _++_, map}
+use mathlib.Core.List.{List, [], _∷_, _++_}
 use mathlib.Core.Logic.{_⊎_}
 use lib.Dec.{eqb, ltb}
-use lib.ListN.{length, getD, take, replicate}
+use lib.ListN.{length, getD, replicate}
 use Rattle.grammar.specs.Words.{Integer, Str, Float, Char, Identifier, SSemiColon, SDot, KNone, KTrue, KFalse, tok, step, Zero, order, infix-of}
 use Rattle.grammar.specs.Words.{goes-on}
 use Rattle.grammar.specs.Tree.{Tree, infixed, node, Trees, nil, _▸_, size, sizes, lay, identifier, int, float, char, string, bool, none, width}
-use Rattle.grammar.specs.Parsed.{Parsed, refused, read, met, Unreached}
+use Rattle.grammar.specs.Parsed.{Parsed, refused, read, met, Unreached, NoRow}
 use Rattle.grammar.specs.Expressions.{expression}
 use Rattle.grammar.specs.Statements.{statement}
-use Rattle.grammar.specs.Script.{nesting, array-good, one-expression, one-statement, whole-script, rows, answer, pool, word-of}
-
--- The three entries, from place 0.
-pub data Entry : Type 0 where
-  X S W : Entry
-
--- What an entry reads.
-unfoldable pub entered : Entry → List ℕ → (room : ℕ) → Parsed Trees
-entered X ts room = one-expression ts 0 room
-entered S ts room = one-statement ts 0 room
-entered W ts room = whole-script ts room
-
--- An example: an entry, tokens, a number of rows, the answer, and the words of the rows, or as many of them as are given.
-pub record Example : Type 0 where
-  pub entry : Entry
-  pub tokens : List ℕ
-  pub room : ℕ
-  pub answered : List ℕ
-  pub laid : List ℕ
-
--- What an example gives by the definition.
-unfoldable pub found : Example → List ℕ
-found e =
-    let p = entered (e .entry) (e .tokens) (e .room) in
-    answer p ++ take (length (e .laid)) (pool (width * e .room) p)
-
--- What it is expected to give.
-unfoldable pub expected : Example → List ℕ
-expected e = e .answered ++ e .laid
-
--- Examples that the definition agrees with.
-abbrev pub Agrees : List Example → Type 0
-Agrees table = map found table ≡ map expected table
+use Rattle.grammar.specs.Script.{nesting, array-good, one-expression, one-statement, whole-script, most-rows, rows, answer, pool, word-of}
 
 -- The order of each infix operator by its mark: Plus, Minus; Mul, Div, Mod; And; Or; Equal; EEqual, NotEqual; the four comparisons; LogicalOr;
 -- LogicalAnd; PlusEq, MinusEq, MulEq, DivEq, AndEq, OrEq, ModEq.
@@ -114,6 +82,38 @@ NeverUnreached =
     → (¬ (one-expression ts start room ≡ refused Unreached place))
     × (¬ (one-statement ts start room ≡ refused Unreached place))
     × (¬ (whole-script ts room ≡ refused Unreached place))
+
+-- How many tokens there are from a place on, EOF not counted.
+abbrev pub tokens-from : List ℕ → ℕ → ℕ
+tokens-from ts start = length ts - 1 - start
+
+-- Rows that are enough for an expression, where n tokens come before EOF: one for each.
+abbrev pub expression-rows : ℕ → ℕ
+expression-rows n = n
+
+-- Rows that are enough for a statement: one for each token and one for the statement, or two for each token but the first two; none for no token.
+abbrev pub statement-rows : ℕ → ℕ
+statement-rows n = min (2 * n) (max (n + 1) (2 * n - 4))
+
+-- Rows that are enough for a whole script: two for each token, and one for the block.
+abbrev pub script-rows : ℕ → ℕ
+script-rows n = 2 * n + 1
+
+-- With so many rows no entry refuses for want of a row, whatever the array.
+abbrev pub RowsEnough : Type 0
+RowsEnough =
+    (ts : List ℕ) (start room place : ℕ)
+    → (expression-rows (tokens-from ts start) ≤ room → ¬ (one-expression ts start room ≡ refused NoRow place))
+    × (statement-rows (tokens-from ts start) ≤ room → ¬ (one-statement ts start room ≡ refused NoRow place))
+    × (script-rows (tokens-from ts 0) ≤ room → ¬ (whole-script ts room ≡ refused NoRow place))
+
+-- So a pool with the most rows is never too small.
+abbrev pub LargestEnough : Type 0
+LargestEnough =
+    (ts : List ℕ) (start room place : ℕ) → most-rows ≤ room
+    → (¬ (one-expression ts start room ≡ refused NoRow place))
+    × (¬ (one-statement ts start room ≡ refused NoRow place))
+    × (¬ (whole-script ts room ≡ refused NoRow place))
 
 -- An answer whose first word is 0 is an acceptance.
 abbrev pub Accepts : Parsed Trees → Type 0

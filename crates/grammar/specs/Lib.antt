@@ -5,4 +5,5 @@ pub mod Parsed
 pub mod Expressions
 pub mod Statements
 pub mod Script
+pub mod Examples
 pub mod Claims
