@@ -3,9 +3,8 @@ use crate::lexer::LexerAPI;
 use crate::parser::ast::Program;
 use crate::parser::Parser;
 
-/// Words of a row, and the most rows a pool has: those of `reader.h`.
-pub const ROW: usize = 8;
-pub const MOST_ROWS: usize = 65535;
+/// Words of a row, and the most rows a pool has.
+pub use crate::sizes::{MOST_ROWS, ROW_WORDS as ROW};
 
 /// The words of a row that have its first child and its next, as in `state.h`.
 pub const CHILD: usize = 3;

@@ -39,6 +39,7 @@ mod files;
 mod kind;
 pub mod raw;
 mod refusal;
+mod sizes;
 mod text;
 mod token;
 mod tree;
@@ -48,9 +49,10 @@ pub use entries::{one_expression, one_statement, whole_script};
 pub use files::read_file;
 pub use kind::{Infix, Kind, Prefix, Suffix};
 pub use refusal::{Reason, Refusal};
+pub use sizes::{MOST_ROWS, ROW_WORDS, TOKEN_WORDS};
 pub use text::{fold, text};
 pub use token::{Keyword, Symbol, Token};
-pub use tree::{Node, Row, Tree, GROUPED, MOST_ROWS, ROW_WORDS, TOKEN_WORDS};
+pub use tree::{Node, Row, Tree, GROUPED};
 pub use walk::{List, Walk};
 
 /// The page on both bindings, whose Rust example is run as a test.

@@ -1,17 +1,7 @@
 //! The tree that an entry laid out in the pool: its rows, and the way from a row to its children.
 use crate::walk::{List, Walk};
-use crate::{Infix, Kind, Prefix, Suffix};
+use crate::{Infix, Kind, Prefix, Suffix, ROW_WORDS};
 use std::fmt;
-
-/// How many words of the pool a row takes.
-pub const ROW_WORDS: usize = 8;
-
-/// The most rows of a pool; words behind them are only zeroed.
-pub const MOST_ROWS: usize = 65_535;
-
-/// So many words of the pool for each token, EOF counted, are enough for any script: no token takes
-/// more than two rows.
-pub const TOKEN_WORDS: usize = 2 * ROW_WORDS;
 
 /// What is added to the mark of a row that stands in brackets.
 pub const GROUPED: u32 = 256;
