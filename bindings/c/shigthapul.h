@@ -15,7 +15,8 @@ extern "C" {
 
 /* What a caller owes. Each pointer is followed by a length in elements. It must be good for so many elements, aligned
    for their type and not null, also where the length is 0. What is written must overlap nothing else that is lent.
-   No pointer is kept after a call, and there is no state: any number of threads may call.
+   No pointer is kept after a call, and there is no state: any number of threads may call. A call takes some stack;
+   docs/GUIDE.md says how much.
 
    What a caller gets. Nothing else is asked: for any words and any lengths the functions are proved to stay inside
    what they are lent, and to return. Each writes four words to the front of `answer`, as far as that goes; words

@@ -13,7 +13,7 @@ enum kind { AN_EXPRESSION, A_STATEMENT };
 struct form {
     const char *name, *before, *after;
     enum kind is, holds;
-    int order;  /* of an infix operator; what is right of it may begin with one of a higher order only */
+    int order;     /* of an infix operator, whose right side goes on with operators of a higher order only; or 0 */
     bool swallows; /* a call's brackets behind it would belong to what is in it */
 };
 
@@ -130,7 +130,7 @@ static const struct leaf LEAVES[] = {
 };
 
 /* Flat forms: a head, a part as often as there is room, and a tail. Most make trees as deep as they are long. */
-enum reach { ANYWHERE, IN_STATEMENTS, IN_SCRIPTS };
+enum reach { ANYWHERE, IN_STATEMENTS, IN_SCRIPTS }; /* by the first function that takes it, as in calls.h */
 
 struct flat {
     const char *head, *part, *tail;

@@ -55,7 +55,7 @@ static void bad_arrays(enum function function) {
         expect(function, SHIGTHAPUL_REFUSED_BAD_START, "a start outside", "");
 }
 
-
+/* Some bytes that are repeated. */
 struct bytes {
     const char *name;
     uint8_t bytes[16];
