@@ -6,8 +6,9 @@
 #include <stdlib.h>
 #include <string.h>
 
-/* Words behind the last possible row are only zeroed, so a few of them are enough. */
-enum { ROW = 8, MOST_WORDS = 65536 * ROW, MOST_TOKENS = 65535 };
+/* Words behind the last possible row are only zeroed, so a few of them are enough. A case's head gives its tokens in a
+   16-bit word. */
+enum { MOST_WORDS = (MOST_ROWS + 1) * ROW, MOST_TOKENS = UINT16_MAX };
 
 static uint16_t tokens[MOST_TOKENS];
 static uint32_t pool[MOST_WORDS];

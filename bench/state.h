@@ -2,16 +2,17 @@
 #ifndef PLAIN_STATE_H
 #define PLAIN_STATE_H
 
+#include "reader.h"
 #include "words.h"
 
 #include <stdbool.h>
 #include <stddef.h>
 #include <stdint.h>
 
-enum { ROW = 8, MOST_ROWS = 65535, MOST_TOKENS = 32768, MOST_OPEN = 64 };
+enum { MOST_TOKENS = 32768, MOST_OPEN = 64 };
 
-/* Words of a row. */
-enum { KIND = 0, MARK = 1, PLACE = 2, CHILD = 3, NEXT = 7 };
+/* Words of a row; NEXT is behind the four children. */
+enum { KIND = 0, MARK = 1, PLACE = 2, CHILD = 3, NEXT = CHILD + 4 };
 
 /* What a reader gives for a refusal, in place of a reference. */
 #define FAILED UINT32_MAX

@@ -1,5 +1,5 @@
 //! Whether all readers agree about a script, asked before it is timed.
-use crate::readers::{self, Reader, ROW};
+use crate::readers::{self, Reader, CHILD, NEXT, ROW};
 
 /// Stands in every word of a pool before a reader is asked.
 const FILLING: u32 = 0xA5A5_A5A5;
@@ -35,11 +35,11 @@ fn agreed(tokens: &[u16], rows: usize) -> ([u64; 4], Vec<u32>) {
 /// How many statements hang in the root block.
 fn listed(pool: &[u32], root: usize) -> usize {
     let word = |reference: usize, word: usize| pool[(reference - 1) * ROW + word] as usize;
-    let mut reference = word(root, 3);
+    let mut reference = word(root, CHILD);
     let mut count = 0;
     while reference != 0 {
         count += 1;
-        reference = word(reference, 7);
+        reference = word(reference, NEXT);
     }
     count
 }

@@ -13,6 +13,11 @@ mod timing;
 #[path = "../../oracle/src/words.rs"]
 mod words;
 
+// Shared with the bindings.
+#[allow(dead_code)]
+#[path = "../../bindings/rust/src/sizes.rs"]
+mod sizes;
+
 // The original parser's text, copied at build time.
 include!(concat!(env!("OUT_DIR"), "/original.rs"));
 

@@ -4,8 +4,11 @@ use crate::parser::ast::Program;
 use crate::parser::Parser;
 
 /// Words of a row, and the most rows a pool has.
-pub const ROW: usize = 8;
-pub const MOST_ROWS: usize = 65535;
+pub use crate::sizes::{MOST_ROWS, ROW_WORDS as ROW};
+
+/// The words of a row that have its first child and its next, as in `state.h`.
+pub const CHILD: usize = 3;
+pub const NEXT: usize = CHILD + 4;
 
 #[derive(Clone, Copy, Debug, PartialEq)]
 pub enum Reader {

@@ -15,7 +15,8 @@ extern "C" {
 
 /* What a caller owes. Each pointer is followed by a length in elements. It must be good for so many elements, aligned
    for their type and not null, also where the length is 0. What is written must overlap nothing else that is lent.
-   No pointer is kept after a call, and there is no state: any number of threads may call.
+   No pointer is kept after a call, and there is no state: any number of threads may call. A call takes some stack;
+   docs/GUIDE.md says how much.
 
    What a caller gets. Nothing else is asked: for any words and any lengths the functions are proved to stay inside
    what they are lent, and to return. Each writes four words to the front of `answer`, as far as that goes; words
@@ -29,9 +30,15 @@ extern "C" {
    A refusal                         its number, its place, 0, 0 */
 enum { SHIGTHAPUL_ANSWER_WORDS = 4 };
 
-/* A row of the pool has eight words: kind, mark, place, four children, next. A reference is a row's number plus one,
-   and 0 for none. A pool of `n` words has n / 8 rows, at most 65,535. */
-enum { SHIGTHAPUL_ROW_WORDS = 8, SHIGTHAPUL_CHILDREN = 4 };
+/* The words of a row of the pool: kind, mark, place, children, next. A reference is a row's number plus one, and 0 for
+   none. A pool of `n` words has n / SHIGTHAPUL_ROW_WORDS rows, at most SHIGTHAPUL_MOST_ROWS. No token takes more than
+   two rows, so SHIGTHAPUL_TOKEN_WORDS words of a pool for each token, EOF counted, are enough for any script. */
+enum {
+    SHIGTHAPUL_ROW_WORDS = 8,
+    SHIGTHAPUL_CHILDREN = 4,
+    SHIGTHAPUL_MOST_ROWS = 65535,
+    SHIGTHAPUL_TOKEN_WORDS = 2 * SHIGTHAPUL_ROW_WORDS
+};
 
 /* Read one expression, or one statement, from the place `start`. `tokens` has 1 to 32,768 words, EOF last and nowhere
    else. The tree goes into `pool`, every other word of which becomes 0; after a refusal all of them are 0. A statement

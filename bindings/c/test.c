@@ -101,6 +101,7 @@ static void test_text(void) {
 }
 
 static void test_numbers(void) {
+    CHECK(sizeof(struct shigthapul_row) == SHIGTHAPUL_ROW_WORDS * sizeof pool[0]);
     CHECK(shigthapul_word(SHIGTHAPUL_CLASS_KEYWORD, SHIGTHAPUL_KAsync) == 0x091B);
     CHECK(strcmp(shigthapul_symbol_text(SHIGTHAPUL_SImpl), "=>") == 0);
     CHECK(strcmp(shigthapul_kind_text(SHIGTHAPUL_KIND_FOREACH), "foreach") == 0);

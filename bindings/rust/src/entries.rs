@@ -4,19 +4,20 @@ use crate::{raw, Refusal, Tree};
 /// Reads one expression from a start place. What stands behind it is not looked at.
 ///
 /// ```
-/// use shigthapul::{one_expression, Infix, Reason};
+/// use shigthapul::{one_expression, Infix, Reason, ROW_WORDS};
 ///
 /// // `a + b` and EOF
 /// let tokens = [0x0700, 0x0801, 0x0700, 0x0200];
-/// let mut pool = [0; 24];
+/// let mut pool = [0; 3 * ROW_WORDS];
 /// let tree = one_expression(&tokens, &mut pool, 0).unwrap();
 /// assert_eq!(tree.root().unwrap().infix(), Some(Infix::Plus));
 /// assert_eq!(tree.last_place(), 2);
 ///
 /// // Three rows are just enough.
-/// let refusal = one_expression(&tokens, &mut pool[..16], 0).unwrap_err();
+/// let two = &mut pool[..2 * ROW_WORDS];
+/// let refusal = one_expression(&tokens, two, 0).unwrap_err();
 /// assert_eq!((refusal.reason, refusal.place), (Reason::NoRoom, 2));
-/// assert_eq!(pool[..16], [0; 16]);
+/// assert_eq!(*two, [0; 2 * ROW_WORDS]);
 /// ```
 pub fn one_expression<'a>(
     tokens: &[u16],
@@ -31,7 +32,7 @@ pub fn one_expression<'a>(
 /// Reads one statement from a start place. A lone Empty token is accepted, and gives no root.
 ///
 /// ```
-/// use shigthapul::{one_statement, Keyword, Kind, Symbol, Token};
+/// use shigthapul::{one_statement, Keyword, Kind, Symbol, Token, ROW_WORDS};
 ///
 /// let words = [
 ///     Token::Empty.word(),
@@ -39,7 +40,7 @@ pub fn one_expression<'a>(
 ///     Token::Operator(Symbol::SSemiColon).word(),
 ///     Token::EOF.word(),
 /// ];
-/// let mut pool = [0; 8];
+/// let mut pool = [0; ROW_WORDS];
 /// assert_eq!(one_statement(&words, &mut pool, 0).unwrap().root(), None);
 /// assert_eq!(one_statement(&words, &mut pool, 1).unwrap().root().unwrap().kind(), Kind::Break);
 /// ```
@@ -56,10 +57,10 @@ pub fn one_statement<'a>(
 /// Reads a whole script. The root is a block at place 0.
 ///
 /// ```
-/// use shigthapul::{whole_script, Kind};
+/// use shigthapul::{whole_script, Kind, ROW_WORDS};
 ///
 /// // `a b` and EOF: statements need nothing between them.
-/// let mut pool = [0; 40];
+/// let mut pool = [0; 5 * ROW_WORDS];
 /// let tree = whole_script(&[0x0700, 0x0700, 0x0200], &mut pool).unwrap();
 /// let statements: Vec<Kind> = tree.root().unwrap().children().map(|node| node.kind()).collect();
 /// assert_eq!(statements, [Kind::Expression, Kind::Expression]);

@@ -2,11 +2,11 @@
 //!
 //! It takes a script's tokens and answers its tree, or refuses it with a number and a place. Each
 //! token is a word ([`Token`]), with EOF last and nowhere else. The tree is laid out in a pool of
-//! words that the caller lends, eight to a row; reading allocates nothing. After a refusal every
+//! words that the caller lends, [`ROW_WORDS`] to a row; reading allocates nothing. After a refusal every
 //! word of the pool is zero. No input makes these functions panic.
 //!
 //! ```
-//! use shigthapul::{whole_script, Infix, Kind, Symbol, Token};
+//! use shigthapul::{whole_script, Infix, Kind, Symbol, Token, TOKEN_WORDS};
 //!
 //! # fn main() -> Result<(), shigthapul::Refusal> {
 //! // a + b * c
@@ -14,7 +14,7 @@
 //! let name = Token::Identifier;
 //! let tokens = [name, plus, name, times, name, Token::EOF].map(Token::word);
 //!
-//! let mut pool = [0; 8 * 100];
+//! let mut pool = vec![0; TOKEN_WORDS * tokens.len()];
 //! let tree = whole_script(&tokens, &mut pool)?;
 //!
 //! let product = tree.of_kind(Kind::Infix).next().unwrap();
@@ -39,6 +39,7 @@ mod files;
 mod kind;
 pub mod raw;
 mod refusal;
+mod sizes;
 mod text;
 mod token;
 mod tree;
@@ -48,9 +49,10 @@ pub use entries::{one_expression, one_statement, whole_script};
 pub use files::read_file;
 pub use kind::{Infix, Kind, Prefix, Suffix};
 pub use refusal::{Reason, Refusal};
+pub use sizes::{MOST_ROWS, ROW_WORDS, TOKEN_WORDS};
 pub use text::{fold, text};
 pub use token::{Keyword, Symbol, Token};
-pub use tree::{Node, Row, Tree, GROUPED, ROW_WORDS};
+pub use tree::{Node, Row, Tree, GROUPED};
 pub use walk::{List, Walk};
 
 /// The page on both bindings, whose Rust example is run as a test.

@@ -4,11 +4,13 @@
 //! behind the fourth stay as they were. The functions of the crate's root are built on these.
 //!
 //! ```
-//! let mut pool = [7; 9];
+//! use shigthapul::ROW_WORDS;
+//!
+//! let mut pool = [7; ROW_WORDS + 1];
 //! let mut answer = [9; 3];
 //! shigthapul::raw::whole_script(&[0x0700, 0x0B00], &mut pool, &mut answer);
 //! assert_eq!(answer, [1, 1, 0]); // refusal 1 at place 1
-//! assert_eq!(pool, [0; 9]);
+//! assert_eq!(pool, [0; ROW_WORDS + 1]);
 //! ```
 //!
 //! # Why the calls are sound

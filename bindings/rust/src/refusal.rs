@@ -48,13 +48,13 @@ table! {
 /// The place is that of a token, from 0; for [`Reason::BadField`] it is that of a field.
 ///
 /// ```
-/// use shigthapul::{one_expression, Reason, Refusal, Symbol, Token};
+/// use shigthapul::{one_expression, Reason, Refusal, Symbol, Token, ROW_WORDS};
 ///
 /// let open = Token::Operator(Symbol::SLParen).word();
 /// let close = Token::Operator(Symbol::SRparen).word();
 /// let group = [open, Token::Identifier.word(), close, Token::EOF.word()];
 ///
-/// let refusal = one_expression(&group, &mut [0; 64], 0).unwrap_err();
+/// let refusal = one_expression(&group, &mut [0; 8 * ROW_WORDS], 0).unwrap_err();
 /// assert_eq!(refusal, Refusal { reason: Reason::InvalidSyntax, place: 1 });
 /// assert_eq!(refusal.number(), 10);
 /// assert!(refusal.to_string().starts_with("refused 10 at 1: "));

@@ -1,10 +1,7 @@
 //! The tree that an entry laid out in the pool: its rows, and the way from a row to its children.
 use crate::walk::{List, Walk};
-use crate::{Infix, Kind, Prefix, Suffix};
+use crate::{Infix, Kind, Prefix, Suffix, ROW_WORDS};
 use std::fmt;
-
-/// How many words of the pool a row takes.
-pub const ROW_WORDS: usize = 8;
 
 /// What is added to the mark of a row that stands in brackets.
 pub const GROUPED: u32 = 256;
@@ -18,12 +15,12 @@ const RAW: u32 = 1;
 /// The words of a row. A reference is a row's number plus one, and 0 for none.
 ///
 /// ```
-/// use shigthapul::{Kind, Row};
+/// use shigthapul::{Kind, Row, ROW_WORDS};
 ///
 /// let row = Row::from_words([12, 0, 1, 1, 4, 0, 0, 0]).unwrap();
 /// assert_eq!((row.kind, row.place, row.children), (Kind::Infix, 1, [1, 4, 0, 0]));
 /// assert_eq!(row.words(), [12, 0, 1, 1, 4, 0, 0, 0]);
-/// assert_eq!(Row::from_words([0; 8]), None);
+/// assert_eq!(Row::from_words([0; ROW_WORDS]), None);
 /// ```
 #[derive(Clone, Copy, Debug, PartialEq, Eq, Hash)]
 pub struct Row {
@@ -40,14 +37,14 @@ pub struct Row {
 }
 
 impl Row {
-    /// The row of eight words; none where the first is no kind.
+    /// The row of its words; none where the first is no kind.
     pub fn from_words(words: [u32; ROW_WORDS]) -> Option<Row> {
         let [kind, mark, place, c0, c1, c2, c3, next] = words;
         let kind = Kind::from_number(kind)?;
         Some(Row { kind, mark, place, children: [c0, c1, c2, c3], next })
     }
 
-    /// The eight words of the row.
+    /// The words of the row.
     pub fn words(self) -> [u32; ROW_WORDS] {
         let [c0, c1, c2, c3] = self.children;
         [self.kind.number(), self.mark, self.place, c0, c1, c2, c3, self.next]
@@ -57,11 +54,11 @@ impl Row {
 /// An accepted script, expression or statement: its tree in the lent pool.
 ///
 /// ```
-/// use shigthapul::{one_expression, Kind};
+/// use shigthapul::{one_expression, Kind, ROW_WORDS};
 ///
 /// // `f ( a , b )` and EOF
 /// let tokens = [0x0700, 0x0805, 0x0700, 0x080C, 0x0700, 0x0806, 0x0200];
-/// let mut pool = [0; 80];
+/// let mut pool = [0; 10 * ROW_WORDS];
 /// let tree = one_expression(&tokens, &mut pool, 0).unwrap();
 ///
 /// let call = tree.root().unwrap();
@@ -106,7 +103,7 @@ impl<'a> Tree<'a> {
         self.words.is_empty()
     }
 
-    /// The words of the rows, eight to a row.
+    /// The words of the rows, [`ROW_WORDS`] to a row.
     pub fn words(self) -> &'a [u32] {
         self.words
     }
@@ -123,7 +120,7 @@ impl<'a> Tree<'a> {
     ///
     /// ```
     /// // `! a` and EOF
-    /// let mut pool = [0; 16];
+    /// let mut pool = [0; 2 * shigthapul::ROW_WORDS];
     /// let tree = shigthapul::one_expression(&[0x080E, 0x0700, 0x0200], &mut pool, 0).unwrap();
     /// let lines: Vec<String> = tree.nodes().map(|node| node.to_string()).collect();
     /// assert_eq!(lines, ["identifier at 1", "prefix ! at 0"]);
@@ -143,7 +140,7 @@ impl<'a> Tree<'a> {
     ///
     /// ```
     /// // `a + b` and EOF
-    /// let mut pool = [0; 80];
+    /// let mut pool = [0; 10 * shigthapul::ROW_WORDS];
     /// let tokens = [0x0700, 0x0801, 0x0700, 0x0200];
     /// let tree = shigthapul::one_expression(&tokens, &mut pool, 0).unwrap();
     /// let lines: Vec<_> = tree.walk().map(|(depth, node)| format!("{depth} {node}")).collect();
@@ -167,7 +164,7 @@ impl fmt::Debug for Tree<'_> {
 /// ```
 /// // `( thread f ( ) )` and EOF
 /// let tokens = [0x0805, 0x091A, 0x0700, 0x0805, 0x0806, 0x0806, 0x0200];
-/// let mut pool = [0; 80];
+/// let mut pool = [0; 10 * shigthapul::ROW_WORDS];
 /// let call = shigthapul::one_expression(&tokens, &mut pool, 0).unwrap().root().unwrap();
 /// assert!(call.is_thread() && call.is_grouped() && !call.is_async());
 /// assert_eq!(call.to_string(), "call thread grouped at 3");
@@ -216,7 +213,7 @@ impl<'a> Node<'a> {
     /// ```
     /// // `[ a , b ]` and EOF
     /// let tokens = [0x0822, 0x0700, 0x080C, 0x0700, 0x0823, 0x0200];
-    /// let mut pool = [0; 80];
+    /// let mut pool = [0; 10 * shigthapul::ROW_WORDS];
     /// let array = shigthapul::one_expression(&tokens, &mut pool, 0).unwrap().root().unwrap();
     /// assert_eq!(array.list(0).count(), 2);
     /// assert_eq!(array.list(1).count(), 0);

@@ -1,7 +1,8 @@
 //! The limits: nesting, rows, arrays, start places, answers with few words, and empty slices.
 mod common;
 use common::{answer, enough, line, words, DIRT};
-use shigthapul::{one_expression, one_statement, raw, whole_script, Reason, Refusal, ROW_WORDS};
+use shigthapul::{one_expression, one_statement, raw, whole_script};
+use shigthapul::{Reason, Refusal, MOST_ROWS, ROW_WORDS, TOKEN_WORDS};
 
 /// `!` so often and a name, read by an entry; the answer without its tree.
 fn nots(entry: &str, count: usize) -> String {
@@ -32,11 +33,11 @@ fn rows() {
 fn the_longest_array_and_the_largest_pool() {
     let names = |count| [words("a _NOEOF").repeat(count), words("")].concat();
     let longest = names(32_767);
-    let mut pool = vec![DIRT; ROW_WORDS * 65_536];
+    let mut pool = vec![DIRT; TOKEN_WORDS * longest.len()];
     let tree = whole_script(&longest, &mut pool).unwrap();
-    assert_eq!((tree.len(), tree.last_place()), (65_535, 32_767));
-    assert_eq!(pool[ROW_WORDS * 65_535..], [0; ROW_WORDS]);
-    let refusal = whole_script(&longest, &mut pool[..ROW_WORDS * 65_534]).unwrap_err();
+    assert_eq!((tree.len(), tree.last_place()), (MOST_ROWS, 32_767));
+    assert_eq!(pool[ROW_WORDS * MOST_ROWS..], [0; ROW_WORDS]);
+    let refusal = whole_script(&longest, &mut pool[..ROW_WORDS * (MOST_ROWS - 1)]).unwrap_err();
     assert_eq!(refusal, Refusal { reason: Reason::NoRoom, place: 32_767 });
     let refusal = whole_script(&names(32_768), &mut pool).unwrap_err();
     assert_eq!(refusal, Refusal { reason: Reason::BadArray, place: 0 });
@@ -45,14 +46,14 @@ fn the_longest_array_and_the_largest_pool() {
 #[test]
 fn start_places() {
     let tokens = words("a + b");
-    let mut pool = [DIRT; 30];
+    let mut pool = [DIRT; 3 * ROW_WORDS + 6];
     let tree = one_expression(&tokens, &mut pool, 2).unwrap();
     assert_eq!((line(tree.root()), tree.last_place()), ("identifier@2".into(), 2));
     for start in [4, 5, usize::MAX] {
         let refused = Err(Refusal { reason: Reason::BadStart, place: 0 });
         assert_eq!(one_expression(&tokens, &mut pool, start), refused);
         assert_eq!(one_statement(&tokens, &mut pool, start), refused);
-        assert_eq!(pool, [0; 30]);
+        assert_eq!(pool, [0; 3 * ROW_WORDS + 6]);
         pool.fill(DIRT);
     }
     assert_eq!(one_expression(&tokens, &mut pool, 3).unwrap_err().number(), 11);
@@ -78,7 +79,7 @@ fn short_and_long_answers() {
     let full = [0, 3, 3, 2];
     for length in 0..7 {
         let mut answer = [9; 8];
-        raw::one_expression(&words("a + b"), &mut [DIRT; 24], 0, &mut answer[..length]);
+        raw::one_expression(&words("a + b"), &mut [DIRT; 3 * ROW_WORDS], 0, &mut answer[..length]);
         let written = length.min(full.len());
         assert_eq!(answer[..written], full[..written]);
         assert!(answer[written..].iter().all(|&word| word == 9));
@@ -90,7 +91,7 @@ fn every_function_answers_in_four_words() {
     let mut answer = [9; 5];
     raw::one_statement(&words("break"), &mut [], 0, &mut answer);
     assert_eq!(answer, [28, 0, 0, 0, 9]);
-    raw::whole_script(&words("a"), &mut [DIRT; 24], &mut answer);
+    raw::whole_script(&words("a"), &mut [DIRT; 3 * ROW_WORDS], &mut answer);
     assert_eq!(answer, [0, 3, 3, 1, 9]);
     raw::read_file(&[2, 0, 0, 2, 0, 0], &mut [9; 3], &mut answer);
     assert_eq!(answer, [0, 2, 0, 0, 9]);

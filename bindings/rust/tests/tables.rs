@@ -2,6 +2,7 @@
 mod common;
 use common::text_of;
 use shigthapul::{Infix, Keyword, Kind, Prefix, Reason, Suffix, Symbol, Token};
+use shigthapul::{MOST_ROWS, ROW_WORDS};
 
 /// A member of a table: its name in small letters without `_`, its number, its text.
 type Member = (String, u32, String);
@@ -97,6 +98,22 @@ fn the_rattle_source_has_the_same_codes() {
 fn code(line: &str, kind: &str) -> Option<(String, u32)> {
     let (name, code) = line.strip_prefix(kind)?.trim().split_once(" = ")?;
     Some((plain(name), code.parse().ok()?))
+}
+
+/// The number behind a name and ` = ` in a file.
+fn size(path: &str, name: &str) -> usize {
+    let text = text_of(path);
+    let behind = text.split_once(&format!("{} = ", name)).map(|(_, behind)| behind);
+    let digits = behind.and_then(|text| text.split(|c: char| !c.is_ascii_digit()).next());
+    digits.and_then(|digits| digits.parse().ok()).unwrap_or_else(|| panic!("no {}", name))
+}
+
+#[test]
+fn the_c_header_and_the_rattle_source_have_the_same_sizes() {
+    assert_eq!(size("bindings/c/shigthapul.h", "SHIGTHAPUL_ROW_WORDS"), ROW_WORDS);
+    assert_eq!(size("bindings/c/shigthapul.h", "SHIGTHAPUL_MOST_ROWS"), MOST_ROWS);
+    assert_eq!(size("crates/rows/src/lib.rt", "const WIDTH: usize"), ROW_WORDS);
+    assert_eq!(size("crates/answer/src/lib.rt", "const MOST_ROWS: usize"), MOST_ROWS);
 }
 
 #[test]

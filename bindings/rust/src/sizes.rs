@@ -1,0 +1,11 @@
+//! The sizes of rows and pools; the bench has them from here too.
+
+/// How many words of the pool a row takes.
+pub const ROW_WORDS: usize = 8;
+
+/// The most rows of a pool; words behind them are only zeroed.
+pub const MOST_ROWS: usize = 65_535;
+
+/// So many words of the pool for each token, EOF counted, are enough for any script: no token takes
+/// more than two rows.
+pub const TOKEN_WORDS: usize = 2 * ROW_WORDS;

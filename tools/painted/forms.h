@@ -1,0 +1,219 @@
+/* The forms that nest, what stands innermost in them, and flat forms, as texts; and the token words of a text. */
+#ifndef STACK_FORMS_H
+#define STACK_FORMS_H
+
+#include <stdbool.h>
+#include <string.h>
+
+#include "shigthapul.h"
+
+enum kind { AN_EXPRESSION, A_STATEMENT };
+
+/* A form is one expression or statement, with a hole for another between two texts. */
+struct form {
+    const char *name, *before, *after;
+    enum kind is, holds;
+    int order;     /* of an infix operator, whose right side goes on with operators of a higher order only; or 0 */
+    bool swallows; /* a call's brackets behind it would belong to what is in it */
+};
+
+#define AROUND(name, before, after) {name, before, after, AN_EXPRESSION, AN_EXPRESSION, 0, false}
+#define BEFORE(name, before, after) {name, before, after, AN_EXPRESSION, AN_EXPRESSION, 0, true}
+#define INFIX(sign, order) {"a " sign " ..", "a " sign, "", AN_EXPRESSION, AN_EXPRESSION, order, true}
+
+static const struct form EXPRESSIONS[] = {
+    BEFORE("++ ..", "++", ""),
+    BEFORE("-- ..", "--", ""),
+    BEFORE("! ..", "!", ""),
+    BEFORE("~ ..", "~", ""),
+    AROUND("( .. )", "(", ")"),
+    AROUND("[ .. ]", "[", "]"),
+    AROUND("[ a , .. ]", "[ a ,", "]"),
+    AROUND("{ .. : a }", "{", ": a }"),
+    AROUND("{ a : .. }", "{ a :", "}"),
+    AROUND("{ a : a , .. : a }", "{ a : a ,", ": a }"),
+    AROUND("{ a : a , a : .. }", "{ a : a , a :", "}"),
+    BEFORE("lambda .. => a", "lambda", "=> a"),
+    BEFORE("lambda a , .. => a", "lambda a ,", "=> a"),
+    BEFORE("lambda a => ..", "lambda a =>", ""),
+    AROUND("a ( .. )", "a (", ")"),
+    AROUND("a ( a , .. )", "a ( a ,", ")"),
+    AROUND("a . a ( ) ( .. )", "a . a ( ) (", ")"),
+    AROUND("a [ .. ]", "a [", "]"),
+    AROUND("a [ a ] [ .. ]", "a [ a ] [", "]"),
+    BEFORE("$ ..", "$", ""),
+    BEFORE("$ . ..", "$ .", ""),
+    AROUND("thread .. ( )", "thread", "( )"),
+    AROUND("async .. ( )", "async", "( )"),
+    INFIX("=", 1), INFIX("+=", 1), INFIX("-=", 1), INFIX("*=", 1), INFIX("/=", 1), INFIX("&=", 1), INFIX("|=", 1),
+    INFIX("%=", 1), INFIX("||", 2), INFIX("&&", 3), INFIX("|", 4), INFIX("&", 5), INFIX("==", 6), INFIX("!=", 6),
+    INFIX(">=", 7), INFIX(">", 7), INFIX("<=", 7), INFIX("<", 7), INFIX("+", 8), INFIX("-", 8), INFIX("*", 9),
+    INFIX("/", 9), INFIX("%", 9),
+};
+
+/* A block's first statement, and one behind it. */
+#define BLOCK(name, before, after) \
+    {name, before, after, A_STATEMENT, A_STATEMENT, 0, false}, \
+    {name ", behind another", before " break ;", after, A_STATEMENT, A_STATEMENT, 0, false}
+
+static const struct form BODIES[] = {
+    BLOCK("if body", "if ( a ) {", "}"),
+    BLOCK("if body before else", "if ( a ) {", "} else { }"),
+    BLOCK("else body", "if ( a ) { } else {", "}"),
+    BLOCK("while body", "while ( a ) {", "}"),
+    BLOCK("for body", "for a in a => {", "}"),
+    BLOCK("foreach body", "foreach a , a , a => {", "}"),
+    BLOCK("func body", "func a ( ) {", "}"),
+    BLOCK("func body behind parameters", "func a ( a , a ) {", "}"),
+    BLOCK("try body", "try {", "} catch a { }"),
+    BLOCK("try body before finally", "try {", "} catch a { } finally { }"),
+    BLOCK("catch body", "try { } catch a {", "}"),
+    BLOCK("finally body", "try { } catch a { } finally {", "}"),
+};
+
+#define TAKES(name, before, after) {name, before, after, A_STATEMENT, AN_EXPRESSION, 0, false}
+
+static const struct form TAKERS[] = {
+    TAKES("expression statement", "", ""),
+    TAKES("var", "var a =", ""),
+    TAKES("const", "const a =", ""),
+    TAKES("return", "return", ""),
+    TAKES("throw", "throw", ""),
+    TAKES("assert value", "assert", ", a"),
+    TAKES("assert action", "assert a ,", ""),
+    TAKES("if condition", "if (", ") { }"),
+    TAKES("while condition", "while (", ") { }"),
+    TAKES("for target", "for", "in a => { }"),
+    TAKES("for iterator", "for a in", "=> { }"),
+    TAKES("foreach iterator", "foreach", ", a , a => { }"),
+    TAKES("foreach index", "foreach a ,", ", a => { }"),
+    TAKES("foreach element", "foreach a , a ,", "=> { }"),
+    TAKES("func parameter", "func a (", ") { }"),
+    TAKES("func parameter behind another", "func a ( a ,", ") { }"),
+    TAKES("catch exception", "try { } catch", "{ }"),
+};
+
+/* What stands innermost, with the number of its refusal, or 0. */
+struct leaf {
+    const char *text;
+    enum kind is;
+    uint32_t refusal;
+};
+
+static const struct leaf LEAVES[] = {
+    {"a", AN_EXPRESSION, 0},
+    {"1", AN_EXPRESSION, 0},
+    {"1.5", AN_EXPRESSION, 0},
+    {"'c'", AN_EXPRESSION, 0},
+    {"\"s\"", AN_EXPRESSION, 0},
+    {"true", AN_EXPRESSION, 0},
+    {"none", AN_EXPRESSION, 0},
+    {"a . a . a", AN_EXPRESSION, 0},
+    {"a ( )", AN_EXPRESSION, 0},
+    {"a ++", AN_EXPRESSION, 0},
+    {"[ ]", AN_EXPRESSION, 0},
+    {"{ }", AN_EXPRESSION, 0},
+    {"+", AN_EXPRESSION, SHIGTHAPUL_REFUSED_INVALID_SYMBOL},
+    {"in", AN_EXPRESSION, SHIGTHAPUL_REFUSED_NOT_IMPLEMENTED},
+    {"_I", AN_EXPRESSION, SHIGTHAPUL_REFUSED_INVALID_TOKEN},
+    {"a . a . +", AN_EXPRESSION, SHIGTHAPUL_REFUSED_INVALID_IDENTIFIER},
+    {"lambda ;", AN_EXPRESSION, SHIGTHAPUL_REFUSED_INVALID_SYNTAX},
+    {"break ;", A_STATEMENT, 0},
+    {"continue ;", A_STATEMENT, 0},
+    {"return ;", A_STATEMENT, 0},
+    {"var a ;", A_STATEMENT, 0},
+    {"_E", A_STATEMENT, 0},
+    {"break a", A_STATEMENT, SHIGTHAPUL_REFUSED_BREAK_WITHOUT_SEMICOLON},
+    {"const a ;", A_STATEMENT, SHIGTHAPUL_REFUSED_CONST_WITHOUT_VALUE},
+    {"func (", A_STATEMENT, SHIGTHAPUL_REFUSED_FUNC_WITHOUT_NAME},
+    {"try a", A_STATEMENT, SHIGTHAPUL_REFUSED_INVALID_SYNTAX},
+};
+
+/* Flat forms: a head, a part as often as there is room, and a tail. Most make trees as deep as they are long. */
+enum reach { ANYWHERE, IN_STATEMENTS, IN_SCRIPTS }; /* by the first function that takes it, as in calls.h */
+
+struct flat {
+    const char *head, *part, *tail;
+    enum reach reach;
+};
+
+static const struct flat FLATS[] = {
+    {"a", "= a", "", ANYWHERE},
+    {"a", "+ a", "", ANYWHERE},
+    {"a", "+ a * a", "", ANYWHERE},
+    {"a", "( )", "", ANYWHERE},
+    {"a", "( a )", "", ANYWHERE},
+    {"a", "++", "", ANYWHERE},
+    {"a", "[ a ]", "", ANYWHERE},
+    {"a", ". a", "", ANYWHERE},
+    {"[ a", ", a", "]", ANYWHERE},
+    {"{ a : a", ", a : a", "}", ANYWHERE},
+    {"a ( a", ", a", ")", ANYWHERE},
+    {"lambda a", ", a", "=> a", ANYWHERE},
+    {"func a ( a", ", a", ") { }", IN_STATEMENTS},
+    {"if ( a ) {", "a", "}", IN_STATEMENTS},
+    {"if ( a ) { } else {", "a ;", "}", IN_STATEMENTS},
+    {"while ( a ) {", "_E", "}", IN_STATEMENTS},
+    {"try { } catch a {", "break ;", "}", IN_STATEMENTS},
+    {"", "a", "", IN_SCRIPTS},
+    {"", ";", "", IN_SCRIPTS},
+    {"", "_E", "", IN_SCRIPTS},
+    {"", "var a = a ;", "", IN_SCRIPTS},
+    {"", "if ( a ) { }", "", IN_SCRIPTS},
+    {"", "func a ( ) { return a ; }", "", IN_SCRIPTS},
+};
+
+#define COUNT(table) (sizeof(table) / sizeof *(table))
+
+/* The word of a token by its text: a sign, a keyword, a value, a mark of a class, or else an identifier. */
+static uint16_t word_of(const char *text) {
+    static const struct {
+        const char *text;
+        enum shigthapul_class token_class;
+    } OTHERS[] = {
+        {"1", SHIGTHAPUL_CLASS_INTEGER}, {"1.5", SHIGTHAPUL_CLASS_FLOAT}, {"'c'", SHIGTHAPUL_CLASS_CHAR},
+        {"\"s\"", SHIGTHAPUL_CLASS_STR}, {"_E", SHIGTHAPUL_CLASS_EMPTY}, {"_I", SHIGTHAPUL_CLASS_INVALID},
+    };
+    for (unsigned code = SHIGTHAPUL_SPlus; code <= SHIGTHAPUL_SDollar; code++)
+        if (strcmp(text, shigthapul_symbol_text(code)) == 0)
+            return shigthapul_word(SHIGTHAPUL_CLASS_OPERATOR, code);
+    for (unsigned code = SHIGTHAPUL_KIf; code <= SHIGTHAPUL_KAsync; code++)
+        if (strcmp(text, shigthapul_keyword_text(code)) == 0)
+            return shigthapul_word(SHIGTHAPUL_CLASS_KEYWORD, code);
+    for (size_t other = 0; other < COUNT(OTHERS); other++)
+        if (strcmp(text, OTHERS[other].text) == 0)
+            return shigthapul_word(OTHERS[other].token_class, 0);
+    return shigthapul_word(SHIGTHAPUL_CLASS_IDENTIFIER, 0);
+}
+
+/* The words of a text, whose tokens stand between blanks. */
+enum { MOST_WORDS = 32 };
+
+struct words {
+    const char *text;
+    uint16_t words[MOST_WORDS];
+    size_t count;
+};
+
+static void read_text(struct words *words, const char *text) {
+    words->text = text;
+    words->count = 0;
+    while (*text != '\0') {
+        char token[16] = "";
+        size_t length = strcspn(text, " ");
+        words->words[words->count++] = word_of(memcpy(token, text, length));
+        text += length + strspn(text + length, " ");
+    }
+}
+
+/* The same, kept for the next time: the texts are the ones above, so they are known by where they stand. */
+static const struct words *words_of(const char *text) {
+    enum { KEPT = 4096 };
+    static struct words kept[KEPT];
+    size_t at = (uintptr_t)text % KEPT;
+    if (kept[at].text != text)
+        read_text(&kept[at], text);
+    return &kept[at];
+}
+
+#endif

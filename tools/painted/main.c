@@ -1,0 +1,65 @@
+/* Measures how much stack the six functions take, and prints tables: the deepest nests of every form, mixes of them, and
+   the largest inputs. The status is 1 if a nest is not as deep as it should be. */
+#define _XOPEN_SOURCE 700
+#define _DEFAULT_SOURCE
+
+#include "inputs.h"
+#include "mixes.h"
+#include "patterns.h"
+#include "self_test.h"
+
+static void all_expressions(void) {
+    for (size_t pattern = 0; pattern < pattern_count; pattern++)
+        pattern_nests(ONE_EXPRESSION, &patterns[pattern], AN_EXPRESSION, pattern_name(&patterns[pattern]));
+    print_lines("Forms of expressions, by one_expression");
+}
+
+static void all_statements(enum function function) {
+    char title[80];
+    for (size_t body = 0; body < COUNT(BODIES); body++)
+        body_nests(function, &BODIES[body]);
+    snprintf(title, sizeof title, "Statements in statements, by %s", NAMES[function]);
+    print_lines(title);
+    for (size_t taker = 0; taker < COUNT(TAKERS); taker++)
+        taker_nests(function, &TAKERS[taker]);
+    snprintf(title, sizeof title, "Expressions in a statement, by %s", NAMES[function]);
+    print_lines(title);
+    all_splits(function);
+}
+
+/* What mixes and flat inputs of a function take at most. */
+static void print_others(void) {
+    printf("\n%-60s %8s %8s\n", "By function", "mixes", "flat");
+    for (int function = ONE_EXPRESSION; function <= WHOLE_SCRIPT; function++) {
+        size_t mixes = mix_nests((enum function)function);
+        size_t flats = flat_inputs((enum function)function);
+        bad_arrays((enum function)function);
+        printf("%-60s %8zu %8zu\n", NAMES[function], mixes, flats);
+    }
+}
+
+static void print_worst(void) {
+    printf("\nBytes of stack of a call, at most, and with what\n");
+    for (int function = 0; function < FUNCTIONS; function++)
+        printf("%-16s %8zu  %s\n", NAMES[function], worst[function].bytes, worst[function].what);
+    printf("stack: %lu calls measured, %lu faults\n", calls, faults);
+}
+
+int main(int count, char **words) {
+    bool self_only = count == 2 && strcmp(words[1], "--self-test") == 0;
+    if (count != 1 && !self_only)
+        stop("usage: tools/stack [--self-test]");
+    make_patterns();
+    if (!self_test())
+        return 1;
+    if (self_only)
+        return 0;
+    all_expressions();
+    all_statements(ONE_STATEMENT);
+    all_statements(WHOLE_SCRIPT);
+    print_others();
+    files();
+    payloads();
+    print_worst();
+    return faults == 0 ? 0 : 1;
+}
