@@ -1,2 +1,2 @@
--- The theorem on the entry.
-pub mod Entries
+-- What is proved of the contracts.
+pub mod Determined

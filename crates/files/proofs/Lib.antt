@@ -1,7 +1,7 @@
--- The laws that the functions' proofs share, and the theorems on the definition and on the entry.
+-- The laws that the functions' proofs share, the theorems on the definition, and what is proved of the contract.
 pub mod Pass
 pub mod Outcomes
 pub mod Bound
-pub mod Entries
+pub mod Determined
 pub mod Examples
 mod Cleared

@@ -7,3 +7,4 @@ pub mod Statements
 pub mod Script
 pub mod Examples
 pub mod Claims
+pub mod Once

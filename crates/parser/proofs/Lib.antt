@@ -11,3 +11,4 @@ mod Ends
 mod Lists
 mod Wholes
 mod Promised
+mod Determined

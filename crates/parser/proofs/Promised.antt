@@ -1,17 +1,14 @@
 -- The promises of the entries: what is claimed of the definition, carried to every result that meets a contract.
 use Prim.Native.Nat.{ℕ}
 use native.Mathlib.Omega.{arith}
-use mathlib.Core.Path.{_≡_, refl, sym, ap, _∙_}
+use mathlib.Core.Path.{_≡_, refl, ap, _∙_}
 use Rattle.grammar.specs.Tree.{Trees}
 use Rattle.grammar.specs.Parsed.{Parsed, refused, read}
 use Rattle.grammar.specs.Script.{answer, pool}
 use Rattle.grammar.proofs.Answers.{answers}
 use Rattle.grammar.proofs.Rows.{pool-rule}
 use Rattle.answer.specs.Answer.{answered, numbers}
-use Rattle.parser.specs.Promises.{Once, Numbered, ZeroAfter, Opens, ChainsAnswered, RuleAnswered}
-
-pub once : Once
-once P r r′ words ys ys′ e e′ = (e .answer ∙ sym (e′ .answer), e .left ∙ sym (e′ .left))
+use Rattle.parser.specs.Promises.{Numbered, ZeroAfter, Opens, ChainsAnswered, RuleAnswered}
 
 numbers-are : (P : Parsed Trees) → numbers (answered P) ≡ answer P
 unfolding answer

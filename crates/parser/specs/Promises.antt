@@ -12,10 +12,6 @@ use Rattle.answer.specs.declared.Answer.the-variants.{Accepted, Refused}
 use Rattle.parser.specs.Entries.{Entered}
 use Rattle.answer.specs.Answer.{numbers}
 
--- Two results of an entry for one input are one: the answer, and every word of the pool.
-abbrev pub Once : Type 0
-Once = (P : Parsed Trees) (r r′ : Answer) (words : ℕ) (ys ys′ : List ℕ) → Entered P r words ys → Entered P r′ words ys′ → (r ≡ r′) × (ys ≡ ys′)
-
 -- The number and the values of an entry's answer are those of the definition.
 abbrev pub Numbered : Type 0
 Numbered = (P : Parsed Trees) (r : Answer) (words : ℕ) (ys : List ℕ) → Entered P r words ys → numbers r ≡ answer P

@@ -1,5 +1,5 @@
--- The two entries: each contract determines what is answered and every byte left, and folding then handing back gives the folded text.
-use mathlib.Core.Path.{_≡_, refl, sym, ap, _∙_}
+-- The two entries together: folding and then handing back gives the folded text.
+use mathlib.Core.Path.{_≡_, refl, sym, ap}
 use mathlib.Core.Bool.{Bool, true, false}
 use mathlib.Core.List.{List}
 use Prim.Native.Nat.{ℕ, _+_}
@@ -8,21 +8,10 @@ use lib.Dec.{leb}
 use lib.ListN.{length, drop, length-append}
 use lib.Seq.{take-append-seam}
 use borrow.Author.Tests.{le-leb}
-use denote.Ref.{now}
 use Rattle.text.specs.declared.Folded.the-variants.{Length, Refused}
 use Rattle.text.specs.Fold.{has-pair, folded, written}
 use Rattle.text.specs.Entries.{answer, fold-answer, fold-buffer, text-of}
 use Rattle.text.proofs.Cases.{Told, same, less, told}
-use Rattle.text.proofs.fold.Reads as fold
-use Rattle.text.proofs.text.Reads as text
-
--- two results that meet the contract of `fold` answer the same, and leave the same work buffer
-pub fold-determined : (κs : _) (args : _) (r r′ : _) (left left′ : _) → fold.Post κs args r left → fold.Post κs args r′ left′ → (r ≡ r′) × (now (left .1 .0) ≡ now (left′ .1 .0))
-fold-determined κs args r r′ left left′ p q = (p .0 ∙ sym (q .0), p .1 ∙ sym (q .1))
-
--- two results that meet the contract of `text` are the same bytes
-pub text-determined : (κs : _) (args : _) (r r′ : _) (left left′ : _) → text.Post κs args r left → text.Post κs args r′ left′ → now r ≡ now r′
-text-determined κs args r r′ left left′ p q = p ∙ sym q
 
 -- the text behind a folding is the folded payload, of length n
 abbrev pub Back : List ℕ → List ℕ → ℕ → Type 0

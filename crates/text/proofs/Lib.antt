@@ -1,4 +1,5 @@
--- The laws that the functions' proofs share, and the theorems on the two entries.
+-- The laws that the functions' proofs share, the theorem on the two entries, and what is proved of the contracts.
 pub mod Pass
 pub mod Cases
 pub mod Entries
+pub mod Determined
