@@ -2,13 +2,18 @@
 use Prim.Native.Nat.{ℕ}
 use native.Mathlib.Omega.{arith}
 use mathlib.Core.Path.{_≡_, refl, ap, _∙_}
+use mathlib.Core.Logic.{_⊎_, ⊎-elim}
+use mathlib.Core.List.{List}
 use Rattle.grammar.specs.Tree.{Trees}
 use Rattle.grammar.specs.Parsed.{Parsed, refused, read}
-use Rattle.grammar.specs.Script.{answer, pool}
+use Rattle.grammar.specs.Script.{answer, pool, rows}
 use Rattle.grammar.proofs.Answers.{answers}
 use Rattle.grammar.proofs.Rows.{pool-rule}
+use Rattle.grammar.proofs.Suffices.{rows-enough, largest-enough, rows-full}
 use Rattle.answer.specs.Answer.{answered, numbers}
-use Rattle.parser.specs.Promises.{Numbered, ZeroAfter, Opens, ChainsAnswered, RuleAnswered}
+use Rattle.answer.specs.declared.Answer.the-variants.{Refused}
+use Rattle.parser.specs.Entries.{Entered}
+use Rattle.parser.specs.Promises.{Numbered, ZeroAfter, Opens, ChainsAnswered, RuleAnswered, EnoughAnswered}
 
 numbers-are : (P : Parsed Trees) → numbers (answered P) ≡ answer P
 unfolding answer
@@ -38,3 +43,19 @@ pub rule-answered : RuleAnswered
 rule-answered ts start room words r ys =
     let c = pool-rule ts start room words in
     (λ e. rw (e .left) (c .0), λ e. rw (e .left) (c .1), λ e. rw (e .left) (c .2))
+
+-- A refusal that an entry answers is the definition's.
+refusal : (P : Parsed Trees) {number place words : ℕ} {ys : List ℕ} → Entered P (Refused number place) words ys → P ≡ refused number place
+refusal (refused n p) e = let a = e .answer in cc
+refusal (read us at left) e = let a = e .answer in let z : _≡_ {A = ℕ} 0 1 = cc in absurd (omega arith)
+
+either : {P : Parsed Trees} {A B : Type 0} {number place words : ℕ} {ys : List ℕ} → (A → ¬ (P ≡ refused number place)) → (B → ¬ (P ≡ refused number place))
+    → A ⊎ B → ¬ Entered P (Refused number place) words ys
+either {P} f g h e = ⊎-elim (λ a. f a (refusal P e)) (λ b. g b (refusal P e)) h
+
+pub enough-answered : EnoughAnswered
+enough-answered ts start words = (
+  λ h place ys. either (rows-enough ts start (rows words) place .0) (λ g. largest-enough ts start (rows words) place (rows-full words g) .0) h,
+  λ h place ys. either (rows-enough ts start (rows words) place .1) (λ g. largest-enough ts start (rows words) place (rows-full words g) .1) h,
+  λ h place ys. either (rows-enough ts start (rows words) place .2) (λ g. largest-enough ts start (rows words) place (rows-full words g) .2) h,
+)

@@ -2,11 +2,12 @@
 use Prim.Native.Nat.{ℕ, _-_, _*_, _≤_}
 use mathlib.Core.Path.{_≡_}
 use mathlib.Core.List.{List, [], _∷_, _++_}
+use mathlib.Core.Logic.{_⊎_}
 use lib.ListN.{replicate}
 use Rattle.grammar.specs.Tree.{Trees, sizes, lay, width}
-use Rattle.grammar.specs.Parsed.{Parsed, read}
-use Rattle.grammar.specs.Script.{one-expression, one-statement, whole-script, rows, answer}
-use Rattle.grammar.specs.Claims.{Grouping, Part, RowsRuled}
+use Rattle.grammar.specs.Parsed.{Parsed, read, NoRow}
+use Rattle.grammar.specs.Script.{one-expression, one-statement, whole-script, largest, rows, answer}
+use Rattle.grammar.specs.Claims.{Grouping, Part, RowsRuled, tokens-from, expression-rows, statement-rows, script-rows}
 use Rattle.answer.specs.declared.Answer.{Answer}
 use Rattle.answer.specs.declared.Answer.the-variants.{Accepted, Refused}
 use Rattle.parser.specs.Entries.{Entered}
@@ -45,3 +46,15 @@ RuleAnswered =
     → (Entered (one-expression ts start room) r words ys → RowsRuled ts ys)
     × (Entered (one-statement ts start room) r words ys → RowsRuled ts ys)
     × (Entered (whole-script ts room) r words ys → RowsRuled ts ys)
+
+-- An entry that is lent so many words has no result that refuses for want of a row.
+abbrev pub NeverFull : ((room : ℕ) → Parsed Trees) → (words : ℕ) → Type 0
+NeverFull entry words = (place : ℕ) (ys : List ℕ) → ¬ Entered (entry (rows words)) (Refused NoRow place) words ys
+
+-- So it is with rows enough, and in the largest pool for every array.
+abbrev pub EnoughAnswered : Type 0
+EnoughAnswered =
+    (ts : List ℕ) (start words : ℕ)
+    → ((expression-rows (tokens-from ts start) ≤ rows words) ⊎ (largest ≤ words) → NeverFull (λ room. one-expression ts start room) words)
+    × ((statement-rows (tokens-from ts start) ≤ rows words) ⊎ (largest ≤ words) → NeverFull (λ room. one-statement ts start room) words)
+    × ((script-rows (tokens-from ts 0) ≤ rows words) ⊎ (largest ≤ words) → NeverFull (λ room. whole-script ts room) words)
