@@ -1,0 +1,14 @@
+-- Numbers in decimal, as bytes.
+use Prim.Native.Nat.{ℕ, zero, suc, _+_, _/_, _%_}
+use mathlib.Core.Bool.{true, false}
+use mathlib.Core.List.{List, [], _∷_, _++_}
+use lib.Dec.{ltb}
+
+-- The digits of a number below 10 ^ (bound + 1), the most significant first.
+unfoldable pub digits : (bound : ℕ) → ℕ → List ℕ
+digits zero n = (48 + n) ∷ []
+digits (suc bound) n = elim (ltb n 10) [ true ↦ (48 + n) ∷ [] | false ↦ digits bound (n / 10) ++ ((48 + n % 10) ∷ []) ]
+
+-- A number in decimal, without leading zeros.
+unfoldable pub decimal : ℕ → List ℕ
+decimal n = digits n n

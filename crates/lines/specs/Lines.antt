@@ -1,0 +1,51 @@
+-- The text that `outline` prints, from an answer and its pool.
+use Prim.Native.Nat.{ℕ, zero, suc}
+use Prim.Native.Char.{code}
+use Prim.Native.String.{String, [] as empty, _∷_ as _then_}
+use mathlib.Core.List.{List, [], _∷_, _++_, map, flatMap}
+use Rattle.grammar.specs.Tree.{width}
+use Rattle.grammar.specs.Script.{word-of}
+use Rattle.answer.specs.declared.Answer.{Answer}
+use Rattle.answer.specs.declared.Answer.the-variants as an
+use Rattle.lines.specs.Decimal.{decimal}
+
+-- The bytes of a quoted text.
+abbrev pub letters : String → List ℕ
+letters empty = []
+letters (c then cs) = code c ∷ letters cs
+
+-- The byte behind a number: a space if there are more numbers, and a newline behind the last.
+abbrev pub behind : (more : List ℕ) → ℕ
+behind [] = 10
+behind (n ∷ ns) = 32
+
+-- Numbers in decimal on a line.
+unfoldable pub line : List ℕ → List ℕ
+line [] = []
+line (n ∷ ns) = decimal n ++ (behind ns ∷ line ns)
+
+-- The first line: `ok`, root, rows and last place, or `no`, number and place.
+abbrev pub first-line : Answer → List ℕ
+first-line (an.Accepted root rows place) = letters "ok " ++ line (root ∷ rows ∷ place ∷ [])
+first-line (an.Refused number place) = letters "no " ++ line (number ∷ place ∷ [])
+
+-- So many numbers, counted from the first.
+unfoldable pub from : (first count : ℕ) → List ℕ
+from first zero = []
+from first (suc count) = first ∷ from (suc first) count
+
+-- The words of a row in the order of the layout, and their line.
+abbrev pub row-words : (pool : List ℕ) (reference : ℕ) → List ℕ
+row-words pool reference = map (word-of pool reference) (from 0 width)
+
+abbrev pub row-line : (pool : List ℕ) (reference : ℕ) → List ℕ
+row-line pool reference = line (row-words pool reference)
+
+-- How many rows an answer uses: none after a refusal.
+abbrev pub used : Answer → ℕ
+used (an.Accepted root rows place) = rows
+used (an.Refused number place) = 0
+
+-- The whole text: the first line, and then the line of each used row.
+unfoldable pub text : Answer → (pool : List ℕ) → List ℕ
+text answer pool = first-line answer ++ flatMap (row-line pool) (from 1 (used answer))
