@@ -7,8 +7,8 @@ use native.Mathlib.Omega.{arith}
 use borrow.Author.Tests.{le-leb, lt-leb}
 use lib.ListN.{length, getD, take, drop, set, length-append, length-drop, length-set}
 use lib.Seq.{paste, take-all, take-length, drop-length, length-take-le, drop-at, drop-cons}
-use Rattle.lines.specs.Decimal.{decimal}
-use Rattle.lines.specs.Lines.{line, behind}
+use Rattle.lines.specs.Decimal.{decimal, most-digits}
+use Rattle.lines.specs.Lines.{line, behind, places}
 use Rattle.lines.specs.Writes.{written, Writes}
 use Rattle.lines.proofs.Decimal.{digit-behind, last-digit, some-digit, twenty}
 
@@ -27,7 +27,7 @@ pub record Digits (n : ℕ) (buf₀ : List ℕ) (end : ℕ) (buf : List ℕ) (le
   pub long : length buf ≡ length buf₀
   pub whole : decimal left ++ drop at buf ≡ decimal n ++ drop end buf₀
 
-module _ (n : ℕ) (buf₀ : List ℕ) (end : ℕ) (small : n < 2 ^ 64) (room : 20 ≤ end) (fits : end ≤ length buf₀) where
+module _ (n : ℕ) (buf₀ : List ℕ) (end : ℕ) (small : n < 2 ^ 64) (room : most-digits ≤ end) (fits : end ≤ length buf₀) where
   pub begun : Digits n buf₀ end buf₀ n end
   begun = record { inside = omega arith; long = refl; whole = refl }
 
@@ -87,7 +87,7 @@ pub record Line (numbers buf₀ buf : List ℕ) (at i next : ℕ) : Type 0 where
   pub inside : i ≤ length numbers
   pub long : length buf ≡ length buf₀
   pub end : at ≤ length buf
-  pub room : length buf ≤ at + 21 * (length numbers - i)
+  pub room : length buf ≤ at + places * (length numbers - i)
   pub whole : drop at buf ≡ line (drop i numbers)
   pub separator : next ≡ behind (drop i numbers)
 
@@ -104,8 +104,8 @@ none numbers buf = record {
 }
 
 -- one more, before the others
-module _ (numbers buf₀ buf : List ℕ) (at i next : ℕ) (w : Line numbers buf₀ buf at i next) (some : 0 < i) (large : 21 * length numbers ≤ length buf₀) where
-  pub more-room : 21 ≤ at
+module _ (numbers buf₀ buf : List ℕ) (at i next : ℕ) (w : Line numbers buf₀ buf at i next) (some : 0 < i) (large : places * length numbers ≤ length buf₀) where
+  pub more-room : places ≤ at
   more-room = omega (arith, w .inside, w .long, w .room)
 
   abbrev n : ℕ

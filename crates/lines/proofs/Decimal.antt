@@ -7,7 +7,7 @@ use native.Mathlib.Nat.{pow-suc}
 use native.Mathlib.Omega.{arith}
 use lib.ListN.{length, length-append}
 use borrow.Author.Tests.{lt-ltb, le-ltb}
-use Rattle.lines.specs.Decimal.{digits, decimal}
+use Rattle.lines.specs.Decimal.{digits, decimal, most-digits}
 
 digits-low : (f n : ℕ) → n < 10 → digits f n ≡ (48 + n) ∷ []
 unfolding digits
@@ -73,5 +73,5 @@ length-at-most (suc i) n h = go (decLt n 10) (length-at-most i (n / 10))
     go (no l) rec = omega (arith, length-high n (omega arith), rec (omega (arith, less)))
 
 -- A number of 64 bits has at most twenty.
-pub twenty : (n : ℕ) → n < 2 ^ 64 → length (decimal n) ≤ 20
+pub twenty : (n : ℕ) → n < 2 ^ 64 → length (decimal n) ≤ most-digits
 twenty n h = length-at-most 19 n (omega arith)

@@ -17,14 +17,14 @@ once p q =
 -- two results that meet the contract of `number` are one
 pub number-determined : (κs : _) (args : _) (r r′ : _) (left left′ : _) → number.Post κs args r left → number.Post κs args r′ left′
     → (r ≡ r′) × (now (left .1 .0) ≡ now (left′ .1 .0))
-number-determined κs args r r′ left left′ p q = once p q
+number-determined κs args r r′ left left′ p q = once (p .0) (q .0)
 
 -- two results that meet the contract of `first_line` are one
 pub first-line-determined : (κs : _) (args : _) (r r′ : _) (left left′ : _) → first-line.Post κs args r left → first-line.Post κs args r′ left′
     → (r ≡ r′) × (now (left .1 .0) ≡ now (left′ .1 .0))
-first-line-determined κs args r r′ left left′ p q = once p q
+first-line-determined κs args r r′ left left′ p q = once (p .0) (q .0)
 
 -- two results that meet the contract of `row_line` are one
 pub row-line-determined : (κs : _) (args : _) (r r′ : _) (left left′ : _) → row-line.Post κs args r left → row-line.Post κs args r′ left′
     → (r ≡ r′) × (now (left .1 .1 .0) ≡ now (left′ .1 .1 .0))
-row-line-determined κs args r r′ left left′ p q = once p q
+row-line-determined κs args r r′ left left′ p q = once (p .0) (q .0)

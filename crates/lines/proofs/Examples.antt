@@ -1,6 +1,6 @@
 -- Document 01's example, computed.
 use mathlib.Core.Path.{refl}
-use mathlib.Core.List.{flatMap}
+use mathlib.Core.List.{flatten}
 use Rattle.grammar.specs.Tree.{lay, lays}
 use Rattle.grammar.specs.Script.{pool}
 use Rattle.lines.specs.Decimal.{digits, decimal}
@@ -8,5 +8,5 @@ use Rattle.lines.specs.Lines.{line, from, text}
 use Rattle.lines.specs.Example.{Example}
 
 pub example : Example
-unfolding flatMap lay lays pool digits decimal line from text
+unfolding flatten lay lays pool digits decimal line from text
 example = refl

@@ -12,3 +12,7 @@ digits (suc bound) n = elim (ltb n 10) [ true ↦ (48 + n) ∷ [] | false ↦ di
 -- A number in decimal, without leading zeros.
 unfoldable pub decimal : ℕ → List ℕ
 decimal n = digits n n
+
+-- The most digits of a number of 64 bits.
+abbrev pub most-digits : ℕ
+most-digits = 20

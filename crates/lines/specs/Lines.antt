@@ -1,13 +1,15 @@
 -- The text that `outline` prints, from an answer and its pool.
-use Prim.Native.Nat.{ℕ, zero, suc}
+use Prim.Native.Nat.{ℕ, zero, suc, _+_, _*_}
 use Prim.Native.Char.{code}
 use Prim.Native.String.{String, [] as empty, _∷_ as _then_}
-use mathlib.Core.List.{List, [], _∷_, _++_, map, flatMap}
-use Rattle.grammar.specs.Tree.{width}
-use Rattle.grammar.specs.Script.{word-of}
+use mathlib.Core.List.{List, [], _∷_, _++_, map, flatten}
+use Rattle.grammar.specs.Tree.{Trees, width}
+use Rattle.grammar.specs.Parsed.{Parsed}
+use Rattle.grammar.specs.Script.{pool, word-of}
+use Rattle.answer.specs.Answer.{answered}
 use Rattle.answer.specs.declared.Answer.{Answer}
 use Rattle.answer.specs.declared.Answer.the-variants as an
-use Rattle.lines.specs.Decimal.{decimal}
+use Rattle.lines.specs.Decimal.{decimal, most-digits}
 
 -- The bytes of a quoted text.
 abbrev pub letters : String → List ℕ
@@ -46,6 +48,21 @@ abbrev pub used : Answer → ℕ
 used (an.Accepted root rows place) = rows
 used (an.Refused number place) = 0
 
--- The whole text: the first line, and then the line of each used row.
+-- The lines: the first, and then that of each used row.
+abbrev pub lines : Answer → (pool : List ℕ) → List (List ℕ)
+lines answer pool = first-line answer ∷ map (row-line pool) (from 1 (used answer))
+
+-- The whole text.
 unfoldable pub text : Answer → (pool : List ℕ) → List ℕ
-text answer pool = first-line answer ++ flatMap (row-line pool) (from 1 (used answer))
+text answer pool = flatten (lines answer pool)
+
+-- The text of what was read, with a pool of so many words.
+abbrev pub printed : Parsed Trees → (words : ℕ) → List ℕ
+printed p words = text (answered p) (pool words p)
+
+-- The bytes that a number of 64 bits takes at most on a line, and those of the longest line: a word, a space, and as many numbers as a row has words.
+abbrev pub places : ℕ
+places = most-digits + 1
+
+abbrev pub longest : ℕ
+longest = 3 + places * width

@@ -8,19 +8,20 @@ ghost use lib.ListN.{length, drop};
 ghost use lib.Seq.{paste as pasted};
 ghost use Rattle.grammar.specs.Tree.{width};
 ghost use Rattle.grammar.specs.Script.{word-of};
-ghost use Rattle.lines.specs.Decimal.{decimal};
-ghost use Rattle.lines.specs.Lines.{line, first-line, row-words, row-line};
+ghost use Rattle.lines.specs.Decimal.{decimal, most-digits};
+ghost use Rattle.lines.specs.Lines.{line, first-line, row-words, row-line, places, longest};
 ghost use Rattle.lines.specs.Writes.{Writes};
 
-// The most digits of a number, and with the byte behind it.
-const DIGITS: usize = 20;
+// The most digits of a number: a buffer of so many bytes is long enough for any.
+pub const DIGITS: usize = 20;
+
+// The bytes of `ok` or `no` and the space behind it, and those of a number and the byte behind it.
+const WORD: usize = 3;
 
 const PLACES: usize = DIGITS + 1;
 
-// The bytes of `ok` or `no` and the space behind it, and the most bytes of a line with as many numbers as a row.
-const WORD: usize = 3;
-
-const LINE: usize = WORD + PLACES * WIDTH;
+// The bytes of the longest line: a buffer of so many is long enough for any.
+pub const LINE: usize = WORD + PLACES * WIDTH;
 
 // Copies a text into a buffer from a place on.
 fn paste(text: &[u8], out: &mut [u8], at: usize)
@@ -47,7 +48,7 @@ fn put(text: &[u8], out: &mut [u8]) -> usize
 
 // Writes a number in decimal just before a place; where it starts.
 fn digits_before(n: u64, buf: &mut [u8], end: usize) -> usize
-    requires { ⌜ (20 ≤ end) × (end ≤ length (now buf)) ⌝ }
+    requires { ⌜ (most-digits ≤ end) × (end ≤ length (now buf)) ⌝ }
     ensures { λ r. ⌜ (r + length (decimal n) ≡ end) × (drop r (now (buf .exit)) ≡ decimal n ++ drop end (now (buf .entry))) ⌝ }
 {
     let mut left = n;
@@ -65,7 +66,8 @@ fn digits_before(n: u64, buf: &mut [u8], end: usize) -> usize
 
 // Writes the decimal digits of a number.
 pub fn number(n: u64, out: &mut [u8]) -> usize
-    ensures { λ r. ⌜ Writes (decimal n) (now (out .entry)) r (now (out .exit)) ⌝ }
+    ensures written { λ r. ⌜ Writes (decimal n) (now (out .entry)) r (now (out .exit)) ⌝ }
+    ensures short { λ _. ⌜ length (decimal n) ≤ most-digits ⌝ }
 {
     let mut digits: [u8; DIGITS] = [0; DIGITS];
     let at = digits_before(n, &mut digits, DIGITS);
@@ -74,8 +76,8 @@ pub fn number(n: u64, out: &mut [u8]) -> usize
 
 // Writes the line of numbers at the end of a buffer; where it starts.
 fn line_before(numbers: &[u64], buf: &mut [u8]) -> usize
-    requires { ⌜ 21 * length (now numbers) ≤ length (now buf) ⌝ }
-    ensures { λ r. ⌜ (r ≤ length (now (buf .entry))) × (length (now (buf .entry)) ≤ r + 21 * length (now (numbers .entry))) × (drop r (now (buf .exit)) ≡ line (now (numbers .entry))) ⌝ }
+    requires { ⌜ places * length (now numbers) ≤ length (now buf) ⌝ }
+    ensures { λ r. ⌜ (r ≤ length (now (buf .entry))) × (length (now (buf .entry)) ≤ r + places * length (now (numbers .entry))) × (drop r (now (buf .exit)) ≡ line (now (numbers .entry))) ⌝ }
 {
     let mut at = buf.len();
     let mut i = numbers.len();
@@ -93,7 +95,8 @@ fn line_before(numbers: &[u64], buf: &mut [u8]) -> usize
 // Writes a word and the line of numbers behind it.
 fn put_line(word: &[u8], numbers: &[u64], out: &mut [u8]) -> usize
     requires { ⌜ (length (now word) ≤ 3) × (length (now numbers) ≤ width) ⌝ }
-    ensures { λ r. ⌜ Writes (now (word .entry) ++ line (now (numbers .entry))) (now (out .entry)) r (now (out .exit)) ⌝ }
+    ensures written { λ r. ⌜ Writes (now (word .entry) ++ line (now (numbers .entry))) (now (out .entry)) r (now (out .exit)) ⌝ }
+    ensures short { λ _. ⌜ length (now (word .entry) ++ line (now (numbers .entry))) ≤ longest ⌝ }
 {
     let mut buf: [u8; LINE] = [0; LINE];
     let end = line_before(numbers, &mut buf);
@@ -104,7 +107,8 @@ fn put_line(word: &[u8], numbers: &[u64], out: &mut [u8]) -> usize
 
 // Writes the first line of an answer.
 pub fn first_line(answer: Answer, out: &mut [u8]) -> usize
-    ensures { λ r. ⌜ Writes (first-line answer) (now (out .entry)) r (now (out .exit)) ⌝ }
+    ensures written { λ r. ⌜ Writes (first-line answer) (now (out .entry)) r (now (out .exit)) ⌝ }
+    ensures short { λ _. ⌜ length (first-line answer) ≤ longest ⌝ }
 {
     match answer {
         Answer::Accepted(root, rows, place) => {
@@ -146,7 +150,8 @@ fn row_words(pool: &[u32], reference: usize, words: &mut [u64])
 
 // Writes the line of the row with a reference.
 pub fn row_line(pool: &[u32], reference: usize, out: &mut [u8]) -> usize
-    ensures { λ r. ⌜ Writes (row-line (now (pool .entry)) reference) (now (out .entry)) r (now (out .exit)) ⌝ }
+    ensures written { λ r. ⌜ Writes (row-line (now (pool .entry)) reference) (now (out .entry)) r (now (out .exit)) ⌝ }
+    ensures short { λ _. ⌜ length (row-line (now (pool .entry)) reference) ≤ longest ⌝ }
 {
     let mut words: [u64; WIDTH] = [0; WIDTH];
     row_words(pool, reference, &mut words);

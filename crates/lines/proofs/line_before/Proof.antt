@@ -4,6 +4,7 @@ use mathlib.Core.Path.{_≡_}
 use native.Mathlib.Omega.{arith}
 use lib.ListN.{length-set}
 use borrow.Author.Needs.{needs}
+use Rattle.lines.specs.Lines.{places}
 use Rattle.lines.proofs.Buffers.{Line, none, more-room, one-more}
 use Rattle.lines.proofs.line_before.Statement.{statement}
 use Rattle.lines.proofs.line_before.Tie as tie
@@ -18,7 +19,7 @@ loop-holds : tie.Need-loop-holds Inv-loop μ-loop
 loop-holds c = none (c .before .before .args .numbers .now) (c .before .before .args .buf .now)
 
 -- in a turn there is room for a number and the byte behind it
-room : (c : tie.In-loop Inv-loop μ-loop) → 21 ≤ c .before .loop .at
+room : (c : tie.In-loop Inv-loop μ-loop) → places ≤ c .before .loop .at
 room c =
     let a = c .before .before .before .before .args in
     let l = c .before .loop in

@@ -1,8 +1,10 @@
 -- `lines::number` meets its contract: the digits are written at the end of an array, and that part of it is put.
 use mathlib.Core.Path.{_∙_}
 use mathlib.Core.List.{append-nil}
+use native.Mathlib.Omega.{arith}
 use borrow.Author.Needs.{needs}
-use Rattle.lines.specs.Decimal.{decimal}
+use Rattle.lines.specs.Decimal.{decimal, most-digits}
+use Rattle.lines.proofs.Decimal.{twenty}
 use Rattle.lines.proofs.Buffers.{part}
 use Rattle.lines.proofs.number.Statement.{statement}
 use Rattle.lines.proofs.number.Tie as tie
@@ -33,7 +35,7 @@ returns c =
     let put = c .before .before in
     let written = put .before .before .before .before .before in
     let called = written .digits-before in
-    rw (part (called .last .1 .0) (called .result) 20 (called .kept .1 .0) ∙ called .ensures .1 ∙ append-nil (decimal (written .before .before .before .args .n))) at (put .put .ensures)
+    (rw (part (called .last .1 .0) (called .result) most-digits (called .kept .1 .0) ∙ called .ensures .1 ∙ append-nil (decimal (written .before .before .before .args .n))) at (put .put .ensures), twenty (written .before .before .before .args .n) (omega arith))
 
 pub number-spec : {M : Type 1} → statement M
 number-spec =

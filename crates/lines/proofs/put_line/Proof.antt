@@ -1,10 +1,10 @@
 -- `lines::put_line` meets its contract: the line is written at the end of an array, the word before it, and that part of it is put.
-use Prim.Native.Nat.{_+_, _*_, _-_}
+use Prim.Native.Nat.{_-_}
 use mathlib.Core.Path.{_∙_}
 use native.Mathlib.Omega.{arith}
-use lib.ListN.{length}
+use lib.ListN.{length, length-drop}
 use borrow.Author.Needs.{needs}
-use Rattle.grammar.specs.Tree.{width}
+use Rattle.lines.specs.Lines.{longest}
 use Rattle.lines.proofs.Buffers.{part, word-before}
 use Rattle.lines.proofs.put_line.Statement.{statement}
 use Rattle.lines.proofs.put_line.Tie as tie
@@ -47,7 +47,8 @@ returns c =
     let a = lined .before .before .before .before .before .args in
     let line = lined .line-before in
     let text = word-before (line .last .1 .0) (pasting .paste .last .1 .0) (a .word .now) _ (line .result) (omega arith) (omega arith) (line .ensures .2) (pasting .paste .ensures) in
-    rw (part (pasting .paste .last .1 .0) (line .result - length (a .word .now)) (3 + 21 * width) (omega arith) ∙ text) at (put .put .ensures)
+    let e = part (pasting .paste .last .1 .0) (line .result - length (a .word .now)) longest (omega arith) ∙ text in
+    (rw e at (put .put .ensures), rw (← text) (simp length-drop (omega arith)))
 
 pub put-line-spec : {M : Type 1} → statement M
 put-line-spec =
