@@ -2,5 +2,6 @@
 pub mod Decimal
 mod Buffers
 mod Words
+pub mod Texts
 pub mod Examples
 pub mod Determined
