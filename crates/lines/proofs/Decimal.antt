@@ -1,13 +1,13 @@
--- Numbers in decimal: their digits from behind, and how many there are.
+-- Numbers in decimal: what their digits say, the digits from behind, and how many there are.
 use mathlib.Core.Path.{_≡_, refl, sym, ap, _∙_}
 use mathlib.Core.List.{List, [], _∷_, _++_, append-assoc}
-use Prim.Native.Nat.{ℕ, zero, suc, _+_, _*_, _/_, _%_, _^_, _≤_, _<_}
+use Prim.Native.Nat.{ℕ, zero, suc, _+_, _*_, _-_, _/_, _%_, _^_, _≤_, _<_}
 use native.Mathlib.Decide.{decLt}
 use native.Mathlib.Nat.{pow-suc}
 use native.Mathlib.Omega.{arith}
 use lib.ListN.{length, length-append}
 use borrow.Author.Tests.{lt-ltb, le-ltb}
-use Rattle.lines.specs.Decimal.{digits, decimal, most-digits}
+use Rattle.lines.specs.Decimal.{digits, decimal, said, Says, most-digits}
 
 digits-low : (f n : ℕ) → n < 10 → digits f n ≡ (48 + n) ∷ []
 unfolding digits
@@ -40,6 +40,34 @@ unfolding decimal
 decimal-high zero h = absurd (omega arith)
 decimal-high (suc f) h = digits-high f (suc f) h ∙ ap (λ ds. ds ++ ((48 + suc f % 10) ∷ [])) (digits-same f (suc f / 10) (suc f / 10) (omega arith) (omega arith))
 
+-- induction by the digits of a number
+by-digits : (P : ℕ → Type 0) → ((n : ℕ) → n < 10 → P n) → ((n : ℕ) → 10 ≤ n → P (n / 10) → P n) → (n : ℕ) → P n
+by-digits P low high n = go n n (omega arith)
+  where
+    go : (f m : ℕ) → m ≤ f → P m
+    go zero m h = low m (omega arith)
+    go (suc f) m h = turn (decLt m 10) (go f (m / 10))
+      where
+        turn : Dec (m < 10) → (m / 10 ≤ f → P (m / 10)) → P m
+        turn (yes l) rec = low m l
+        turn (no l) rec = high m (omega arith) (rec (omega arith))
+
+-- Round trip: the digits of a number say it.
+said-append : (s : ℕ) (ds es : List ℕ) → said s (ds ++ es) ≡ said (said s ds) es
+unfolding said
+said-append s [] es = refl
+said-append s (d ∷ ds) es = said-append (s * 10 + (d - 48)) ds es
+
+pub says : Says
+unfolding said
+says = by-digits (λ n. said 0 (decimal n) ≡ n) low high
+  where
+    low : (n : ℕ) → n < 10 → said 0 (decimal n) ≡ n
+    low n h = rw (decimal-low n h) (omega arith)
+
+    high : (n : ℕ) → 10 ≤ n → said 0 (decimal (n / 10)) ≡ n / 10 → said 0 (decimal n) ≡ n
+    high n h e = rw (decimal-high n h, said-append 0 (decimal (n / 10)) ((48 + n % 10) ∷ []), e) (omega arith)
+
 -- From behind: what is left of a number, and the digits written so far.
 pub digit-behind : (n : ℕ) (w : List ℕ) → 10 ≤ n → decimal n ++ w ≡ decimal (n / 10) ++ ((48 + n % 10) ∷ w)
 digit-behind n w h = ap (λ ds. ds ++ w) (decimal-high n h) ∙ append-assoc (decimal (n / 10)) ((48 + n % 10) ∷ []) w
@@ -55,11 +83,7 @@ length-high : (n : ℕ) → 10 ≤ n → length (decimal n) ≡ suc (length (dec
 length-high n h = ap length (decimal-high n h) ∙ simp length-append (omega arith)
 
 pub some-digit : (n : ℕ) → 0 < length (decimal n)
-some-digit n = go (decLt n 10)
-  where
-    go : Dec (n < 10) → 0 < length (decimal n)
-    go (yes h) = omega (arith, length-low n h)
-    go (no h) = omega (arith, length-high n (omega arith))
+some-digit = by-digits (λ n. 0 < length (decimal n)) (λ n h. omega (arith, length-low n h)) (λ n h _. omega (arith, length-high n h))
 
 pub length-at-most : (i n : ℕ) → n < 10 ^ suc i → length (decimal n) ≤ suc i
 length-at-most zero n h = omega (arith, length-low n (rw (pow-suc 10 0) at h))
