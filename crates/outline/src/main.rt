@@ -3,83 +3,78 @@ use answer::Answer;
 use files::Fields;
 use libc::STDIN_FILENO;
 use libc::STDOUT_FILENO;
+use lines::LINE;
+use rows::WIDTH;
+ghost use mathlib.Core.Path.{_≡_};
+ghost use mathlib.Core.List.{[]};
+ghost use Prim.Native.Nat.{_≤_};
+ghost use lib.ListN.{length, take, getD};
+ghost use Rattle.lines.specs.Lines.{used, longest};
+ghost use Rattle.lines.specs.Lines.{text as whole-text, lines as text-lines};
+ghost use Rattle.outline.specs.Outlined.{outlined};
 
 // The bytes of the longest file and one more, the words of the most tokens, and the words of 2,000 rows.
 const BYTES: usize = 60001;
 
 const TOKENS: usize = 20000;
 
-const POOL: usize = 16000;
+const ROWS: usize = 2000;
 
-// The words of a row.
-const ROW: usize = 8;
+const POOL: usize = WIDTH * ROWS;
 
-// Prints a number and what stands behind it; false if that can't be written.
-fn print(n: u64, behind: &[u8]) -> bool {
-    if !io::print_decimal(STDOUT_FILENO, n) {
-        return false;
-    }
-    io::write_all(STDOUT_FILENO, behind)
-}
-
-// Prints a refusal.
-fn print_refusal(number: u32, place: usize) {
-    io::write_all(STDOUT_FILENO, b"no ");
-    print(number as u64, b" ");
-    print(place as u64, b"\n");
-}
-
-// Prints the numbers of an acceptance.
-fn print_acceptance(root: u32, rows: usize, place: usize) {
-    io::write_all(STDOUT_FILENO, b"ok ");
-    print(root as u64, b" ");
-    print(rows as u64, b" ");
-    print(place as u64, b"\n");
-}
-
-// Prints a word of a row, and what stands behind it.
-fn print_word(word: u32, column: usize) -> bool {
-    if column == ROW - 1 {
-        print(word as u64, b"\n")
-    } else {
-        print(word as u64, b" ")
-    }
-}
-
-// Prints the first rows of a pool, each on its line.
-fn print_rows(pool: &[u32], rows: usize) {
-    let mut i = 0;
-    while i < pool.len() && i / ROW < rows {
-        if !print_word(pool[i], i % ROW) {
-            return;
-        }
-        i += 1;
-    }
-}
-
-// Reads a whole script, and prints what comes of it.
-fn outline_script(tokens: &[u16], pool: &mut [u32]) {
-    let answer = parser::whole_script(tokens, pool);
-    match answer {
-        Answer::Accepted(root, rows, place) => {
-            print_acceptance(root, rows, place);
-            print_rows(pool, rows);
-        }
-        Answer::Refused(number, place) => {
-            print_refusal(number, place);
-        }
-    }
-}
-
-// Reads the fields of a file and the script that they are, and prints what comes of it.
-fn outline_file(bytes: &[u8], tokens: &mut [u16], pool: &mut [u32]) {
+// Reads the fields of a file and the script that they are. With its answer and the pool, the text of the file can be printed.
+fn read(bytes: &[u8], tokens: &mut [u16], pool: &mut [u32]) -> Answer
+    ensures { λ r. ⌜ whole-text r (now (pool .exit)) ≡ outlined (now (bytes .entry)) (length (now (tokens .entry))) (length (now (pool .entry))) ⌝ }
+{
     let fields = files::read(bytes, tokens);
     match fields {
-        Fields::Count(n) => {
-            outline_script(&tokens[..n], pool);
-        }
-        Fields::Refused(number, place) => {
-            print_refusal(number, place);
+        Fields::Count(n) => parser::whole_script(&tokens[..n], pool),
+        Fields::Refused(number, place) => Answer::Refused(number, place),
+    }
+}
+
+// How many rows an answer uses.
+fn count(answer: Answer) -> usize
+    ensures { λ r. ⌜ r ≡ used answer ⌝ }
+{
+    match answer {
+        Answer::Accepted(_, rows, _) => rows,
+        Answer::Refused(_, _) => 0,
+    }
+}
+
+// A line of the text, counted from 0, in front of a buffer that is long enough for any.
+fn line(answer: Answer, pool: &[u32], i: usize, out: &mut [u8]) -> usize
+    requires { ⌜ (i ≤ used answer) × (length (now out) ≡ longest) ⌝ }
+    ensures { λ r. ⌜ (r ≤ longest) × (take r (now (out .exit)) ≡ getD (text-lines answer (now (pool .entry))) i []) ⌝ }
+{
+    if i == 0 {
+        lines::first_line(answer, out)
+    } else {
+        lines::row_line(pool, i, out)
+    }
+}
+
+// Prints a line of the text; false if that can't be written.
+fn print_line(answer: Answer, pool: &[u32], i: usize) -> bool
+    requires { ⌜ i ≤ used answer ⌝ }
+{
+    let mut out: [u8; LINE] = [0; LINE];
+    let n = line(answer, pool, i, &mut out);
+    io::write_all(STDOUT_FILENO, &out[..n])
+}
+
+// Prints the text, line after line; stops at one that can't be written.
+fn print(answer: Answer, pool: &[u32]) {
+    if !print_line(answer, pool, 0) {
+        return;
+    }
+    let rows = count(answer);
+    let mut i = 0;
+    while i < rows {
+        i += 1;
+        if !print_line(answer, pool, i) {
+            return;
         }
     }
 }
@@ -89,5 +84,6 @@ fn main() {
     let mut tokens: [u16; TOKENS] = [0; TOKENS];
     let mut pool: [u32; POOL] = [0; POOL];
     let n = io::read_full(STDIN_FILENO, &mut bytes);
-    outline_file(&bytes[..n], &mut tokens, &mut pool);
+    let answer = read(&bytes[..n], &mut tokens, &mut pool);
+    print(answer, &pool);
 }

@@ -4,15 +4,18 @@ mod stream;
 
 use answer::Answer;
 use libc::STDOUT_FILENO;
+use rows::MOST;
+use rows::WIDTH;
 use stream::half;
 use stream::read;
 
-// The most words of an array and of a pool, and the bytes of such a case with its record.
+// The most words of an array and of a pool, which has two rows more than are ever used, and the bytes of such a case with its
+// record.
 const TOKENS: usize = 65536;
 
-const POOL: usize = 524296;
+const POOL: usize = WIDTH * (MOST + 2);
 
-const BYTES: usize = 2228288;
+const BYTES: usize = stream::ROWS_AT + 4 * POOL;
 
 // What comes of a case: whether the answer is the recorded one, as a number, or a third one where it doesn't fit the buffers.
 const DIFFERS: u8 = 0;

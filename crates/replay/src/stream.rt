@@ -1,6 +1,8 @@
 // The stream of recorded cases, each of which is read into one buffer. Numbers stand in it with their low byte first.
 use libc::STDIN_FILENO;
-ghost use Prim.Native.Nat.{_≤_, _<_};
+use rows::WIDTH;
+ghost use Prim.Native.Nat.{_*_, _≤_, _<_};
+ghost use Rattle.grammar.specs.Tree.{width};
 
 // Where the parts of a case lie in its buffer, counted in 16-bit numbers: the entry, the start place, the pool's length and
 // the number of tokens; the tokens; the record's four words, and 1 if every pool word behind the used rows is zero; the rows.
@@ -33,7 +35,7 @@ pub const TOKENS_AT: usize = 12;
 
 const RECORD_AT: usize = 131084;
 
-const ROWS_AT: usize = 131104;
+pub const ROWS_AT: usize = 131104;
 
 // The bytes of a record before its rows.
 const RECORD: usize = 20;
@@ -72,10 +74,10 @@ pub fn word(bytes: &[u8], i: usize) -> usize
 
 // How many words the rows of a record have: none after a refusal.
 pub fn row_words(bytes: &[u8]) -> usize
-    ensures { λ r. ⌜ r < 34359738368 ⌝ }
+    ensures { λ r. ⌜ r < width * 4294967296 ⌝ }
 {
     if word(bytes, FIRST) == 0 {
-        8 * word(bytes, THIRD)
+        WIDTH * word(bytes, THIRD)
     } else {
         0
     }

@@ -7,13 +7,13 @@ use Rattle.replay.proofs.main.Statement.{statement}
 use Rattle.replay.proofs.main.Tie as tie
 
 slice-aggregate-replay-all : tie.Need-slice-aggregate-replay-all
-slice-aggregate-replay-all c = sym (length-replicate {A = ℕ} 2228288 0)
+slice-aggregate-replay-all c = sym (length-replicate {A = ℕ} _ 0)
 
 slice-aggregate-replay-all-2 : tie.Need-slice-aggregate-replay-all-2
-slice-aggregate-replay-all-2 c = sym (length-replicate {A = ℕ} 65536 0)
+slice-aggregate-replay-all-2 c = sym (length-replicate {A = ℕ} _ 0)
 
 slice-aggregate-replay-all-3 : tie.Need-slice-aggregate-replay-all-3
-slice-aggregate-replay-all-3 c = sym (length-replicate {A = ℕ} 524296 4294967295)
+slice-aggregate-replay-all-3 c = sym (length-replicate {A = ℕ} _ 4294967295)
 
 replay-all-requires : tie.Need-replay-all-requires
 replay-all-requires c κs = search needs

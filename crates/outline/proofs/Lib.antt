@@ -1,0 +1,2 @@
+-- What the proofs of `outline` share.
+mod Files

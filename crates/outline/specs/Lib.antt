@@ -1,0 +1,2 @@
+-- What the contracts of `outline` say.
+pub mod Outlined
