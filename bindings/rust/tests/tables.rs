@@ -113,7 +113,7 @@ fn the_c_header_and_the_rattle_source_have_the_same_sizes() {
     assert_eq!(size("bindings/c/shigthapul.h", "SHIGTHAPUL_ROW_WORDS"), ROW_WORDS);
     assert_eq!(size("bindings/c/shigthapul.h", "SHIGTHAPUL_MOST_ROWS"), MOST_ROWS);
     assert_eq!(size("crates/rows/src/lib.rt", "const WIDTH: usize"), ROW_WORDS);
-    assert_eq!(size("crates/answer/src/lib.rt", "const MOST_ROWS: usize"), MOST_ROWS);
+    assert_eq!(size("crates/rows/src/lib.rt", "const MOST: usize"), MOST_ROWS);
 }
 
 #[test]

@@ -11,7 +11,6 @@ use lib.Dec.{eqb}
 use lib.ListN.{length, List·getD-eq-default}
 use Rattle.grammar.specs.Words.{SSemiColon, SComma, SDot, EOF, tok, step, is, next-is, Zero, order, infix-of, goes-on}
 use Rattle.grammar.specs.Tree.{Tree, infixed, node, Trees, nil, _▸_, sizes, join, leaf, flagged, flag, Thread, Async, Grouped, is-call}
-use Rattle.grammar.specs.Tree as tree
 use Rattle.grammar.specs.Parsed.{Parsed, Reader, read, _>>=_, build, match, turns}
 use Rattle.grammar.specs.Expressions.{Rec, get-identifier, dots, dot-expression, no-prefix, entries, list-expr, pair, hash-literal, array}
 use Rattle.grammar.specs.Expressions.{lambda, started, prefix, sub-expression, command, shell, prefix-part, infix-expression, suffix-expression}

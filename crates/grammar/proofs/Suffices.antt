@@ -12,7 +12,7 @@ use borrow.Author.Tests.{ltb-true}
 use Rattle.grammar.specs.Words.{Identifier, SLParen, SComma, SLBrace, SRBrace, KIn, EOF, Zero, tok, step, is, next-is}
 use Rattle.grammar.specs.Tree.{Tree, Trees, nil, join, width}
 use Rattle.grammar.specs.Tree as tree
-use Rattle.grammar.specs.Parsed.{Parsed, refused, Reader, _>>=_, build, choose, match, turns, BreakWithoutSemicolon, ContinueWithoutSemicolon, NoRow}
+use Rattle.grammar.specs.Parsed.{Parsed, refused, Reader, _>>=_, build, turns, BreakWithoutSemicolon, ContinueWithoutSemicolon, NoRow}
 use Rattle.grammar.specs.Expressions.{Rec, list-expr, expression}
 use Rattle.grammar.specs.Statements.{statements, opened, block, assert, function, else, if, value, var, const, while, return, foreach, for}
 use Rattle.grammar.specs.Statements.{throw, finally, try, expression-statement, alone, begun, kept, level, statement}

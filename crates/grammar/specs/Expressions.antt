@@ -8,7 +8,7 @@ use Rattle.grammar.specs.Words.{SRBrace, SNeg, SIncr, SDecr, SLBox, SRBo
 use Rattle.grammar.specs.Words.{KAsync, tok, step, is, next-is, class, Zero, order, infix-of, goes-on}
 use Rattle.grammar.specs.Tree.{Tree, infixed, Trees, nil, _▸_, join, flagged, Thread, Async, Grouped, is-call}
 use Rattle.grammar.specs.Tree as tree
-use Rattle.grammar.specs.Parsed.{Parsed, refused, read, Reader, _>>=_, _>>_, need, build, choose, _⇒_, match, turns, Unreached, TooDeep}
+use Rattle.grammar.specs.Parsed.{refused, read, Reader, _>>=_, _>>_, need, build, choose, _⇒_, match, turns, Unreached, TooDeep}
 use Rattle.grammar.specs.Parsed.{InvalidSyntax, InvalidToken, InvalidSymbol, NotImplemented, InvalidIdentifier, ExpectedColon, NoParameters}
 use Rattle.grammar.specs.Parsed.{ExpectedArrow, HashNotTerminated, ArrayNotTerminated, NotCallable}
 

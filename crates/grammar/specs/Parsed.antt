@@ -3,7 +3,7 @@ use Prim.Native.Nat.{ℕ, zero, suc}
 use mathlib.Core.Bool.{Bool, true, false}
 use mathlib.Core.List.{List, [], _∷_}
 use lib.Dec.{eqb}
-use Rattle.grammar.specs.Tree.{Tree, Trees}
+use Rattle.grammar.specs.Tree.{Tree}
 
 -- A refusal with its number and place, or what was read, the place of the current token and the rows left.
 pub data Parsed (A : Type 0) : Type 0 where

@@ -7,7 +7,7 @@ use Rattle.grammar.specs.Words.{KBreak, KContinue, KConst, KVar, KFunc, 
 use Rattle.grammar.specs.Words.{step, is, next-is, Zero}
 use Rattle.grammar.specs.Tree.{Tree, Trees, nil, _▸_, join}
 use Rattle.grammar.specs.Tree as tree
-use Rattle.grammar.specs.Parsed.{Parsed, refused, read, Reader, _>>=_, _>>_, need, build, choose, _⇒_, match, turns, Unreached, TooDeep}
+use Rattle.grammar.specs.Parsed.{refused, read, Reader, _>>=_, _>>_, need, build, choose, _⇒_, match, turns, Unreached, TooDeep}
 use Rattle.grammar.specs.Parsed.{InvalidSyntax, InvalidToken, InvalidIdentifier, AssertWithoutAction, AssertWithoutComma, FuncWithoutName}
 use Rattle.grammar.specs.Parsed.{IfWithoutBody, ConstWithoutValue, ExpectedEq, TryWithoutCatch, BreakWithoutSemicolon, ContinueWithoutSemicolon}
 use Rattle.grammar.specs.Expressions.{Rec, list-expr, expression}

@@ -1,11 +1,11 @@
 -- What is printed for a file: the script of its words, or its refusal.
 use Prim.Native.Nat.{ℕ, zero, suc, _≤_}
-use mathlib.Core.Path.{_≡_, refl, sym, ap, _∙_}
+use mathlib.Core.Path.{_≡_, sym, _∙_}
 use mathlib.Core.List.{List, flatten}
 use native.Mathlib.Omega.{arith}
-use lib.ListN.{length, take}
+use lib.ListN.{take}
 use lib.Seq.{take-at}
-use Rattle.grammar.specs.Script.{whole-script, rows, pool}
+use Rattle.grammar.specs.Script.{whole-script, rows}
 use Rattle.answer.specs.declared.Answer.{Answer}
 use Rattle.answer.specs.declared.Answer.the-variants as an
 use Rattle.files.specs.declared.Fields.{Fields}

@@ -11,7 +11,7 @@ use lib.Seq.{drop-cons}
 use lib.Dec.{eqb, ltb, leb, eqb·suc-suc, eqb·zero-suc}
 use borrow.Author.Tests.{eqb-true, ltb-true, ltb-false, leb-true, not-true, eq-eqb, lt-ltb, le-leb}
 use Rattle.grammar.specs.Words.{EOF, class, code, codes, valid, tok, step}
-use Rattle.grammar.specs.Parsed.{Check, met, failed, need, BadArray}
+use Rattle.grammar.specs.Parsed.{met, failed, need, BadArray}
 use Rattle.grammar.specs.Script.{both, words-good, array-good, longest}
 use Rattle.grammar.proofs.Checks.{both-met, need-met}
 use Rattle.tokens.specs.Tokens.{word, token}

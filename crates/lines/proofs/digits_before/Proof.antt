@@ -1,8 +1,7 @@
 -- `lines::digits_before` meets its contract: each turn puts the last digit of what is left before those that are there.
 use Prim.Native.Nat.{_<_}
-use mathlib.Core.Path.{sym, _∙_}
 use native.Mathlib.Omega.{arith}
-use lib.ListN.{length, length-set}
+use lib.ListN.{length-set}
 use Rattle.lines.proofs.Buffers.{Digits, begun, some-room, turned, ended}
 use Rattle.lines.proofs.digits_before.Statement.{statement}
 use Rattle.lines.proofs.digits_before.Tie as tie

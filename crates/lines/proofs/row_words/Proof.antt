@@ -6,7 +6,6 @@ use native.Mathlib.Numerals.{add-one}
 use native.Mathlib.Omega.{arith}
 use lib.ListN.{length, drop, length-set}
 use lib.Seq.{drop-length}
-use Rattle.grammar.specs.Tree.{width}
 use Rattle.rows.specs.Rows.{read}
 use Rattle.lines.specs.Lines.{from}
 use borrow.Author.Needs.{needs}

@@ -1,6 +1,5 @@
 -- `outline::print` is safe and ends: it prints a line for each used row.
 use Prim.Native.Nat.{_-_, _≤_}
-use native.Mathlib.Omega.{arith}
 use borrow.Author.Needs.{needs}
 use Rattle.outline.proofs.print.Statement.{statement}
 use Rattle.outline.proofs.print.Tie as tie

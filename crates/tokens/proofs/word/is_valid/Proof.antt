@@ -6,7 +6,7 @@ use lib.ListN.{List·getD-eq-default}
 use lib.Dec.{eqb}
 use borrow.Author.Needs.{needs}
 use borrow.Author.Tests.{eqb-true, ne-eqb, le-ltb}
-use Rattle.grammar.specs.Words.{class, code, codes, valid}
+use Rattle.grammar.specs.Words.{code, codes, valid}
 use Rattle.tokens.proofs.Tests.{under}
 use Rattle.tokens.proofs.Round.{count}
 use Rattle.tokens.proofs.word.is_valid.Statement.{statement}
