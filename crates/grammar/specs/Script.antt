@@ -77,6 +77,10 @@ unfoldable pub pool : (words : ℕ) → Parsed Trees → List ℕ
 pool words (refused n p) = replicate words 0
 pool words (read ts at room) = lays ts 0 ++ replicate (words - width * sizes ts) 0
 
--- A word of the row with a reference: 0 its kind, 1 its mark, 2 its place, 3 to 6 its children, 7 its next.
+-- Where in a pool a word of the row with a reference stands: word 0 is its kind, 1 its mark, 2 its place, 3 to 6 its children, 7 its next.
+abbrev pub seat : (reference word : ℕ) → ℕ
+seat r k = width * (r - 1) + k
+
+-- That word.
 abbrev pub word-of : List ℕ → (reference word : ℕ) → ℕ
-word-of pool r k = getD pool (width * (r - 1) + k) 0
+word-of pool r k = getD pool (seat r k) 0

@@ -12,7 +12,8 @@ use lib.Seq.{set-append-left, getD-append-add}
 use borrow.Author.Tests.{lt-ltb, le-ltb, le-leb, ltb-true, ltb-false, leb-true}
 use Rattle.grammar.specs.Tree.{width, row, flag}
 use Rattle.grammar.specs.Parsed.{NoRow}
-use Rattle.rows.specs.Rows.{kind-word, mark-word, next-word, placed, built, Builds, is-row, at, linked, marked, read, bit}
+use Rattle.grammar.specs.Script.{seat}
+use Rattle.rows.specs.Rows.{kind-word, mark-word, next-word, placed, built, Builds, is-row, linked, marked, read, bit}
 use Rattle.rows.specs.declared.Built.{Built}
 use Rattle.rows.specs.declared.Built.the-variants.{Rows, Refused}
 use Rattle.rows.specs.declared.Flag.{Flag}
@@ -102,13 +103,13 @@ module _ (p ws q : List ℕ) (j : ℕ) (behind : length p ≡ width * j) where
   pub is-there : length ws ≡ width → is-row (length (p ++ (ws ++ q))) (j + 1) ≡ true
   is-there w = is-inside _ (j + 1) (omega arith) (simp length-append (omega arith))
 
-  its-place : (k : ℕ) → at (j + 1) k ≡ length p + k
+  its-place : (k : ℕ) → seat (j + 1) k ≡ length p + k
   its-place k = omega arith
 
-  pub read-there : (k : ℕ) → k < length ws → getD (p ++ (ws ++ q)) (at (j + 1) k) 0 ≡ getD ws k 0
+  pub read-there : (k : ℕ) → k < length ws → getD (p ++ (ws ++ q)) (seat (j + 1) k) 0 ≡ getD ws k 0
   read-there k h = rw (its-place k, getD-append-add p (ws ++ q) k 0) (List·getD-append ws q 0 k h)
 
-  pub stored-there : (k v : ℕ) → k < length ws → set (p ++ (ws ++ q)) (at (j + 1) k) v ≡ p ++ (set ws k v ++ q)
+  pub stored-there : (k v : ℕ) → k < length ws → set (p ++ (ws ++ q)) (seat (j + 1) k) v ≡ p ++ (set ws k v ++ q)
   stored-there k v h = rw (its-place k, set-behind p (ws ++ q) k v, set-append-left ws q k v h)
 
 -- what becomes of a row that stands behind the first j rows

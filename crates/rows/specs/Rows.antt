@@ -1,5 +1,5 @@
 -- The rows of a pool: what building, linking, marking and reading one does.
-use Prim.Native.Nat.{ℕ, _+_, _*_, _-_, _/_}
+use Prim.Native.Nat.{ℕ, _+_, _*_, _/_}
 use mathlib.Core.Path.{_≡_}
 use mathlib.Core.Bool.{Bool, _&&_, cond}
 use mathlib.Core.List.{List, _++_}
@@ -7,7 +7,7 @@ use lib.Dec.{leb, ltb}
 use lib.ListN.{length, take, drop, set}
 use Rattle.grammar.specs.Tree.{width, row, flag, Thread, Async, Grouped}
 use Rattle.grammar.specs.Parsed.{NoRow}
-use Rattle.grammar.specs.Script.{word-of}
+use Rattle.grammar.specs.Script.{seat, word-of}
 use Rattle.rows.specs.declared.Row.{Row}
 use Rattle.rows.specs.declared.Built.{Built}
 use Rattle.rows.specs.declared.Built.the-variants as answer
@@ -46,13 +46,9 @@ pub record Builds (xs : List ℕ) (rows : ℕ) (ws : List ℕ) (place : ℕ) (r 
 unfoldable pub is-row : (words reference : ℕ) → Bool
 is-row n reference = ltb 0 reference && leb reference (n / width)
 
--- Where the k-th word of the row with this reference stands.
-abbrev pub at : (reference k : ℕ) → ℕ
-at reference k = width * (reference - 1) + k
-
 -- A pool with `next` for the next word of the row with this reference, where there is such a row.
 unfoldable pub linked : (xs : List ℕ) (reference next : ℕ) → List ℕ
-linked xs reference next = cond (is-row (length xs) reference) (set xs (at reference next-word) next) xs
+linked xs reference next = cond (is-row (length xs) reference) (set xs (seat reference next-word) next) xs
 
 -- The number that stands for a flag in a mark.
 abbrev pub bit : Flag → ℕ
@@ -62,7 +58,7 @@ bit a.Grouped = Grouped
 
 -- A pool with a flag in the mark of the row with this reference, where there is such a row.
 unfoldable pub marked : (xs : List ℕ) (reference : ℕ) (f : Flag) → List ℕ
-marked xs reference f = cond (is-row (length xs) reference) (set xs (at reference mark-word) (flag (bit f) (word-of xs reference mark-word))) xs
+marked xs reference f = cond (is-row (length xs) reference) (set xs (seat reference mark-word) (flag (bit f) (word-of xs reference mark-word))) xs
 
 -- The k-th word of the row with this reference, 0 where there is no such row or word.
 unfoldable pub read : (xs : List ℕ) (reference k : ℕ) → ℕ
