@@ -2,8 +2,6 @@
 #ifndef STACK_CALLS_H
 #define STACK_CALLS_H
 
-#include <stdbool.h>
-
 #include "shigthapul.h"
 #include "paint.h"
 
@@ -31,67 +29,68 @@ typedef void from_file(const uint8_t *, size_t, uint16_t *, size_t, uint64_t *, 
 typedef void to_work(const uint8_t *, size_t, uint8_t *, size_t, uint64_t *, size_t);
 typedef void from_work(const uint8_t *, size_t, const uint8_t *, size_t, uint64_t *, size_t);
 
-/* What the jobs call: volatile, so that a job is the same code whatever it calls. */
-static from_place *volatile call_from_place;
-static from_front *volatile call_from_front;
-static from_file *volatile call_from_file;
-static to_work *volatile call_to_work;
-static from_work *volatile call_from_work;
+/* A function of one of these types, or the empty function below. */
+union callee {
+    from_place *from_place;
+    from_front *from_front;
+    from_file *from_file;
+    to_work *to_work;
+    from_work *from_work;
+    void (*empty)(void);
+};
+
+/* What a job calls: volatile, so that a job is the same code whatever it calls. */
+static volatile union callee call;
 
 static void job_from_place(void) {
-    call_from_place(lent_tokens, lent.tokens, lent_pool, lent.pool, lent.start, answer.words, SHIGTHAPUL_ANSWER_WORDS);
+    call.from_place(lent_tokens, lent.tokens, lent_pool, lent.pool, lent.start, answer.words, SHIGTHAPUL_ANSWER_WORDS);
 }
 
 static void job_from_front(void) {
-    call_from_front(lent_tokens, lent.tokens, lent_pool, lent.pool, answer.words, SHIGTHAPUL_ANSWER_WORDS);
+    call.from_front(lent_tokens, lent.tokens, lent_pool, lent.pool, answer.words, SHIGTHAPUL_ANSWER_WORDS);
 }
 
 static void job_from_file(void) {
-    call_from_file(lent_bytes, lent.bytes, lent_tokens, lent.tokens, answer.words, SHIGTHAPUL_ANSWER_WORDS);
+    call.from_file(lent_bytes, lent.bytes, lent_tokens, lent.tokens, answer.words, SHIGTHAPUL_ANSWER_WORDS);
 }
 
 static void job_to_work(void) {
-    call_to_work(lent_bytes, lent.bytes, lent_work, lent.work, answer.words, SHIGTHAPUL_ANSWER_WORDS);
+    call.to_work(lent_bytes, lent.bytes, lent_work, lent.work, answer.words, SHIGTHAPUL_ANSWER_WORDS);
 }
 
 static void job_from_work(void) {
-    call_from_work(lent_bytes, lent.bytes, lent_work, lent.work, answer.words, SHIGTHAPUL_ANSWER_WORDS);
+    call.from_work(lent_bytes, lent.bytes, lent_work, lent.work, answer.words, SHIGTHAPUL_ANSWER_WORDS);
 }
 
 /* An empty function. By the rules of calls on x86-64 it can be called with any arguments. */
 static void nothing(void) {
 }
 
-/* The job of a function, which calls that function, or the empty one. */
-static void (*job_of(enum function function, bool empty))(void) {
-    switch (function) {
-    case ONE_EXPRESSION:
-        call_from_place = empty ? (from_place *)nothing : shigthapul_one_expression;
-        return job_from_place;
-    case ONE_STATEMENT:
-        call_from_place = empty ? (from_place *)nothing : shigthapul_one_statement;
-        return job_from_place;
-    case WHOLE_SCRIPT:
-        call_from_front = empty ? (from_front *)nothing : shigthapul_whole_script;
-        return job_from_front;
-    case READ_FILE:
-        call_from_file = empty ? (from_file *)nothing : shigthapul_read_file;
-        return job_from_file;
-    case FOLD:
-        call_to_work = empty ? (to_work *)nothing : shigthapul_fold;
-        return job_to_work;
-    default:
-        call_from_work = empty ? (from_work *)nothing : shigthapul_text;
-        return job_from_work;
-    }
+/* The job of each function, and what it calls there. */
+static const struct {
+    void (*job)(void);
+    union callee callee;
+} JOBS[FUNCTIONS] = {
+    [ONE_EXPRESSION] = {job_from_place, {.from_place = shigthapul_one_expression}},
+    [ONE_STATEMENT] = {job_from_place, {.from_place = shigthapul_one_statement}},
+    [WHOLE_SCRIPT] = {job_from_front, {.from_front = shigthapul_whole_script}},
+    [READ_FILE] = {job_from_file, {.from_file = shigthapul_read_file}},
+    [FOLD] = {job_to_work, {.to_work = shigthapul_fold}},
+    [TEXT] = {job_from_work, {.from_work = shigthapul_text}},
+};
+
+/* The depth of a function's job, which calls that function, or the empty one. */
+static size_t depth_with(enum function function, union callee called) {
+    call = called;
+    return depth_of(JOBS[function].job);
 }
 
 /* The bytes of stack that a call of a function takes with what is lent, beyond those of the empty function. */
 static size_t bytes_of(enum function function) {
     static size_t empty[FUNCTIONS];
     if (empty[function] == 0)
-        empty[function] = depth_of(job_of(function, true));
-    return depth_of(job_of(function, false)) - empty[function];
+        empty[function] = depth_with(function, (union callee){.empty = nothing});
+    return depth_with(function, JOBS[function].callee) - empty[function];
 }
 
 #endif

@@ -17,58 +17,47 @@ struct form {
     bool swallows; /* a call's brackets behind it would belong to what is in it */
 };
 
-#define AROUND(name, before, after) {name, before, after, AN_EXPRESSION, AN_EXPRESSION, 0, false}
-#define BEFORE(name, before, after) {name, before, after, AN_EXPRESSION, AN_EXPRESSION, 0, true}
+/* A form of expressions is called by its texts. */
+#define AROUND(before, after) {before " .. " after, before, after, AN_EXPRESSION, AN_EXPRESSION, 0, false}
+#define BEFORE(before) {before " ..", before, "", AN_EXPRESSION, AN_EXPRESSION, 0, true}
+#define PARAMETER(before) {before " .. => a", before, "=> a", AN_EXPRESSION, AN_EXPRESSION, 0, true}
 #define INFIX(sign, order) {"a " sign " ..", "a " sign, "", AN_EXPRESSION, AN_EXPRESSION, order, true}
 
 static const struct form EXPRESSIONS[] = {
-    BEFORE("++ ..", "++", ""),
-    BEFORE("-- ..", "--", ""),
-    BEFORE("! ..", "!", ""),
-    BEFORE("~ ..", "~", ""),
-    AROUND("( .. )", "(", ")"),
-    AROUND("[ .. ]", "[", "]"),
-    AROUND("[ a , .. ]", "[ a ,", "]"),
-    AROUND("{ .. : a }", "{", ": a }"),
-    AROUND("{ a : .. }", "{ a :", "}"),
-    AROUND("{ a : a , .. : a }", "{ a : a ,", ": a }"),
-    AROUND("{ a : a , a : .. }", "{ a : a , a :", "}"),
-    BEFORE("lambda .. => a", "lambda", "=> a"),
-    BEFORE("lambda a , .. => a", "lambda a ,", "=> a"),
-    BEFORE("lambda a => ..", "lambda a =>", ""),
-    AROUND("a ( .. )", "a (", ")"),
-    AROUND("a ( a , .. )", "a ( a ,", ")"),
-    AROUND("a . a ( ) ( .. )", "a . a ( ) (", ")"),
-    AROUND("a [ .. ]", "a [", "]"),
-    AROUND("a [ a ] [ .. ]", "a [ a ] [", "]"),
-    BEFORE("$ ..", "$", ""),
-    BEFORE("$ . ..", "$ .", ""),
-    AROUND("thread .. ( )", "thread", "( )"),
-    AROUND("async .. ( )", "async", "( )"),
+    BEFORE("++"), BEFORE("--"), BEFORE("!"), BEFORE("~"),
+    AROUND("(", ")"),
+    AROUND("[", "]"), AROUND("[ a ,", "]"),
+    AROUND("{", ": a }"), AROUND("{ a :", "}"), AROUND("{ a : a ,", ": a }"), AROUND("{ a : a , a :", "}"),
+    PARAMETER("lambda"), PARAMETER("lambda a ,"), BEFORE("lambda a =>"),
+    AROUND("a (", ")"), AROUND("a ( a ,", ")"), AROUND("a . a ( ) (", ")"),
+    AROUND("a [", "]"), AROUND("a [ a ] [", "]"),
+    BEFORE("$"), BEFORE("$ ."),
+    AROUND("thread", "( )"), AROUND("async", "( )"),
     INFIX("=", 1), INFIX("+=", 1), INFIX("-=", 1), INFIX("*=", 1), INFIX("/=", 1), INFIX("&=", 1), INFIX("|=", 1),
     INFIX("%=", 1), INFIX("||", 2), INFIX("&&", 3), INFIX("|", 4), INFIX("&", 5), INFIX("==", 6), INFIX("!=", 6),
     INFIX(">=", 7), INFIX(">", 7), INFIX("<=", 7), INFIX("<", 7), INFIX("+", 8), INFIX("-", 8), INFIX("*", 9),
     INFIX("/", 9), INFIX("%", 9),
 };
 
-/* A block's first statement, and one behind it. */
-#define BLOCK(name, before, after) \
-    {name, before, after, A_STATEMENT, A_STATEMENT, 0, false}, \
-    {name ", behind another", before " break ;", after, A_STATEMENT, A_STATEMENT, 0, false}
+/* The body that a head has, before a tail or with none: its first statement, and one behind another. */
+#define BODY_BEFORE(name, head, tail) \
+    {name, head " {", "} " tail, A_STATEMENT, A_STATEMENT, 0, false}, \
+    {name ", behind another", head " { break ;", "} " tail, A_STATEMENT, A_STATEMENT, 0, false}
+#define BODY(name, head) BODY_BEFORE(name, head, "")
 
 static const struct form BODIES[] = {
-    BLOCK("if body", "if ( a ) {", "}"),
-    BLOCK("if body before else", "if ( a ) {", "} else { }"),
-    BLOCK("else body", "if ( a ) { } else {", "}"),
-    BLOCK("while body", "while ( a ) {", "}"),
-    BLOCK("for body", "for a in a => {", "}"),
-    BLOCK("foreach body", "foreach a , a , a => {", "}"),
-    BLOCK("func body", "func a ( ) {", "}"),
-    BLOCK("func body behind parameters", "func a ( a , a ) {", "}"),
-    BLOCK("try body", "try {", "} catch a { }"),
-    BLOCK("try body before finally", "try {", "} catch a { } finally { }"),
-    BLOCK("catch body", "try { } catch a {", "}"),
-    BLOCK("finally body", "try { } catch a { } finally {", "}"),
+    BODY("if body", "if ( a )"),
+    BODY_BEFORE("if body before else", "if ( a )", "else { }"),
+    BODY("else body", "if ( a ) { } else"),
+    BODY("while body", "while ( a )"),
+    BODY("for body", "for a in a =>"),
+    BODY("foreach body", "foreach a , a , a =>"),
+    BODY("func body", "func a ( )"),
+    BODY("func body behind parameters", "func a ( a , a )"),
+    BODY_BEFORE("try body", "try", "catch a { }"),
+    BODY_BEFORE("try body before finally", "try", "catch a { } finally { }"),
+    BODY("catch body", "try { } catch a"),
+    BODY("finally body", "try { } catch a { } finally"),
 };
 
 #define TAKES(name, before, after) {name, before, after, A_STATEMENT, AN_EXPRESSION, 0, false}
@@ -100,33 +89,24 @@ struct leaf {
     uint32_t refusal;
 };
 
+#define VALUE(text) {text, AN_EXPRESSION, 0}
+#define REFUSED_VALUE(text, refusal) {text, AN_EXPRESSION, SHIGTHAPUL_REFUSED_##refusal}
+#define STATEMENT(text) {text, A_STATEMENT, 0}
+#define REFUSED_STATEMENT(text, refusal) {text, A_STATEMENT, SHIGTHAPUL_REFUSED_##refusal}
+
 static const struct leaf LEAVES[] = {
-    {"a", AN_EXPRESSION, 0},
-    {"1", AN_EXPRESSION, 0},
-    {"1.5", AN_EXPRESSION, 0},
-    {"'c'", AN_EXPRESSION, 0},
-    {"\"s\"", AN_EXPRESSION, 0},
-    {"true", AN_EXPRESSION, 0},
-    {"none", AN_EXPRESSION, 0},
-    {"a . a . a", AN_EXPRESSION, 0},
-    {"a ( )", AN_EXPRESSION, 0},
-    {"a ++", AN_EXPRESSION, 0},
-    {"[ ]", AN_EXPRESSION, 0},
-    {"{ }", AN_EXPRESSION, 0},
-    {"+", AN_EXPRESSION, SHIGTHAPUL_REFUSED_INVALID_SYMBOL},
-    {"in", AN_EXPRESSION, SHIGTHAPUL_REFUSED_NOT_IMPLEMENTED},
-    {"_I", AN_EXPRESSION, SHIGTHAPUL_REFUSED_INVALID_TOKEN},
-    {"a . a . +", AN_EXPRESSION, SHIGTHAPUL_REFUSED_INVALID_IDENTIFIER},
-    {"lambda ;", AN_EXPRESSION, SHIGTHAPUL_REFUSED_INVALID_SYNTAX},
-    {"break ;", A_STATEMENT, 0},
-    {"continue ;", A_STATEMENT, 0},
-    {"return ;", A_STATEMENT, 0},
-    {"var a ;", A_STATEMENT, 0},
-    {"_E", A_STATEMENT, 0},
-    {"break a", A_STATEMENT, SHIGTHAPUL_REFUSED_BREAK_WITHOUT_SEMICOLON},
-    {"const a ;", A_STATEMENT, SHIGTHAPUL_REFUSED_CONST_WITHOUT_VALUE},
-    {"func (", A_STATEMENT, SHIGTHAPUL_REFUSED_FUNC_WITHOUT_NAME},
-    {"try a", A_STATEMENT, SHIGTHAPUL_REFUSED_INVALID_SYNTAX},
+    VALUE("a"), VALUE("1"), VALUE("1.5"), VALUE("'c'"), VALUE("\"s\""), VALUE("true"), VALUE("none"),
+    VALUE("a . a . a"), VALUE("a ( )"), VALUE("a ++"), VALUE("[ ]"), VALUE("{ }"),
+    REFUSED_VALUE("+", INVALID_SYMBOL),
+    REFUSED_VALUE("in", NOT_IMPLEMENTED),
+    REFUSED_VALUE("_I", INVALID_TOKEN),
+    REFUSED_VALUE("a . a . +", INVALID_IDENTIFIER),
+    REFUSED_VALUE("lambda ;", INVALID_SYNTAX),
+    STATEMENT("break ;"), STATEMENT("continue ;"), STATEMENT("return ;"), STATEMENT("var a ;"), STATEMENT("_E"),
+    REFUSED_STATEMENT("break a", BREAK_WITHOUT_SEMICOLON),
+    REFUSED_STATEMENT("const a ;", CONST_WITHOUT_VALUE),
+    REFUSED_STATEMENT("func (", FUNC_WITHOUT_NAME),
+    REFUSED_STATEMENT("try a", INVALID_SYNTAX),
 };
 
 /* Flat forms: a head, a part as often as there is room, and a tail. Most make trees as deep as they are long. */

@@ -5,14 +5,8 @@
 #include "lines.h"
 #include "measure.h"
 
-enum { LONGEST_PATTERN = 10 };
-
-struct pattern {
-    const struct form *forms[LONGEST_PATTERN];
-    size_t count;
-};
-
-static struct pattern patterns[COUNT(EXPRESSIONS) + 1];
+/* A pattern is a nest with no leaf, whose forms fill other nests by turns. */
+static struct nest patterns[COUNT(EXPRESSIONS) + 1];
 static size_t pattern_count;
 
 static const struct form *form_named(const char *name) {
@@ -25,38 +19,38 @@ static const struct form *form_named(const char *name) {
 
 /* Each form of expressions by itself, but an infix operator with a prefix behind it, and one operator of each order. */
 static void make_patterns(void) {
-    static const char *const LADDER[LONGEST_PATTERN] = {"a = ..",  "a || ..", "a && ..", "a | ..", "a & ..",
-                                                        "a == ..", "a < ..",  "a + ..",  "a * ..", "! .."};
+    static const char *const LADDER[] = {"a = ..",  "a || ..", "a && ..", "a | ..", "a & ..",
+                                         "a == ..", "a < ..",  "a + ..",  "a * ..", "! .."};
     for (size_t form = 0; form < COUNT(EXPRESSIONS); form++) {
-        struct pattern *pattern = &patterns[pattern_count++];
-        pattern->forms[pattern->count++] = &EXPRESSIONS[form];
+        struct nest *pattern = &patterns[pattern_count++];
+        add(pattern, &EXPRESSIONS[form]);
         if (EXPRESSIONS[form].order != 0)
-            pattern->forms[pattern->count++] = form_named("! ..");
+            add(pattern, form_named("! .."));
     }
-    struct pattern *ladder = &patterns[pattern_count++];
-    for (; ladder->count < LONGEST_PATTERN; ladder->count++)
-        ladder->forms[ladder->count] = form_named(LADDER[ladder->count]);
+    struct nest *ladder = &patterns[pattern_count++];
+    while (ladder->count < COUNT(LADDER))
+        add(ladder, form_named(LADDER[ladder->count]));
 }
 
 /* Whether a pattern is one infix operator with a prefix behind it. */
-static bool is_infix(const struct pattern *pattern) {
+static bool is_infix(const struct nest *pattern) {
     return pattern->count == 2;
 }
 
-static const char *pattern_name(const struct pattern *pattern) {
+static const char *pattern_name(const struct nest *pattern) {
     if (is_infix(pattern))
         return "a OPERATOR ! .., the worst of all infix operators";
     return pattern->count == 1 ? pattern->forms[0]->name : "a = a || a && a | a & a == a < a + a * ! ..";
 }
 
 /* Adds a pattern's forms in turn until a nest has so many. */
-static void fill(struct nest *nest, const struct pattern *pattern, size_t count) {
+static void fill(struct nest *nest, const struct nest *pattern, size_t count) {
     for (size_t turn = 0; nest->count < count; turn++)
         add(nest, pattern->forms[turn % pattern->count]);
 }
 
 /* A nest of one form, or a pattern, so many deep, by a function: what it takes. */
-static size_t measure_pattern(enum function function, const struct pattern *pattern, size_t count,
+static size_t measure_pattern(enum function function, const struct nest *pattern, size_t count,
                               const struct leaf *leaf) {
     struct nest nest = {.leaf = leaf};
     fill(&nest, pattern, count);
@@ -64,7 +58,7 @@ static size_t measure_pattern(enum function function, const struct pattern *patt
 }
 
 /* The bytes for a level, by nests of 60 and of 20 levels: both numbers are whole turns of every pattern. */
-static double level_of(enum function function, const struct pattern *pattern, const struct leaf *leaf) {
+static double level_of(enum function function, const struct nest *pattern, const struct leaf *leaf) {
     enum { MANY = 60, FEW = 20 };
     struct nest many = {.leaf = leaf}, few = {.leaf = leaf};
     fill(&many, pattern, MANY);
@@ -76,7 +70,7 @@ static double level_of(enum function function, const struct pattern *pattern, co
 }
 
 /* A pattern by a function around every leaf of a kind: all open that may be, and one more. Puts a line. */
-static void pattern_nests(enum function function, const struct pattern *pattern, enum kind kind, const char *name) {
+static void pattern_nests(enum function function, const struct nest *pattern, enum kind kind, const char *name) {
     const struct leaf *first = NULL;
     size_t most = 0;
     for (size_t leaf = 0; leaf < COUNT(LEAVES); leaf++) {
@@ -90,14 +84,14 @@ static void pattern_nests(enum function function, const struct pattern *pattern,
 }
 
 static void body_nests(enum function function, const struct form *body) {
-    struct pattern pattern = {{body}, 1};
+    struct nest pattern = {{body}, 1, NULL};
     pattern_nests(function, &pattern, A_STATEMENT, body->name);
 }
 
 /* So many bodies in one another, then a statement that takes an expression, then a pattern; at the limit, if there is
    room for that, and past it. */
 static size_t measure_split(enum function function, const struct form *body, size_t bodies, const struct form *taker,
-                            const struct pattern *pattern) {
+                            const struct nest *pattern) {
     size_t most = 0;
     for (size_t count = larger(MOST_OPEN - 1, bodies + 1); count <= MOST_OPEN; count++) {
         struct nest nest = {.leaf = &LEAVES[0]};
@@ -122,7 +116,7 @@ static void taker_nests(enum function function, const struct form *taker) {
 }
 
 /* A body around a pattern, at every split; the statement between them is each in turn. */
-static void split_nests(enum function function, const struct form *body, const struct pattern *pattern) {
+static void split_nests(enum function function, const struct form *body, const struct nest *pattern) {
     for (size_t bodies = 0; bodies < MOST_OPEN; bodies++)
         measure_split(function, body, bodies, &TAKERS[bodies % COUNT(TAKERS)], pattern);
 }
