@@ -1,9 +1,11 @@
--- The theorems used, on arrays written out; and that ten open expressions are needed, and all the rows that are said to be enough.
+-- The theorems used, on arrays written out; and that ten open expressions are needed, that a statement counts among what is open, and that all the
+-- rows are needed that are said to be enough.
 use Prim.Native.Nat.{ℕ, zero, suc, _+_, _-_, _*_, _≤_}
 use mathlib.Core.Path.{_≡_, refl}
-use mathlib.Core.List.{List, [], _∷_}
+use mathlib.Core.List.{List, [], _∷_, _++_}
 use native.Mathlib.Omega.{arith}
-use Rattle.grammar.specs.Words.{Operator, EOF, Identifier, SLParen, SRparen, SSemiColon, SEq, SLBrace, SIncr, SLBox, SRBox, KTry, Zero, tok, step, is, next-is, class}
+use lib.ListN.{replicate}
+use Rattle.grammar.specs.Words.{Operator, EOF, Identifier, SLParen, SRparen, SSemiColon, SExcl, SEq, SLBrace, SIncr, SLBox, SRBox, KTry, Zero, tok, step, is, next-is, class}
 use Rattle.grammar.specs.Words.{code, by-code, orders, infixes, order, infix-of, operates, goes-on, codes, valid}
 use Rattle.grammar.specs.Tree.{infixed, identifier, call, index, nil, _▸_, join, flag, flagged, is-call}
 use Rattle.grammar.specs.Parsed.{refused, _>>=_, _>>_, need, build, choose, match, turns, TooDeep, NoRow}
@@ -55,6 +57,12 @@ nine-refused : e.expression rising 9 Zero 0 19 ≡ refused TooDeep 18
 unfolding tok step is next-is class code by-code orders infixes order infix-of operates goes-on _>>=_ _>>_ need build choose match turns
     e.get-identifier e.dot-expression e.prefix-part e.infix-expression e.operation e.climb e.level e.expression
 nine-refused = refl
+
+-- A statement counts too: where an expression may have sixty-three ! before a name, a statement may not.
+counted : one-statement (replicate 63 SExcl ++ (a ∷ EOF ∷ [])) 0 64 ≡ refused TooDeep 63
+unfolding tok step is next-is class code by-code orders infixes order infix-of operates goes-on codes valid _>>=_ _>>_ need build choose match turns
+    nesting longest both words-good array-good one-statement e.prefix-part e.prefix e.level e.expression s.expression-statement s.kept s.level s.statement
+counted = refl
 
 -- One row fewer than is always enough, and a row is lacking: a ++ ++; then a ++ ++ and try { a a a a as statements; and a a.
 abbrev signs : List ℕ
