@@ -91,7 +91,8 @@ tokens-from ts start = length ts - 1 - start
 abbrev pub expression-rows : ℕ → ℕ
 expression-rows n = n
 
--- Rows that are enough for a statement: one for each token and one for the statement, or two for each token but the first two; none for no token.
+-- Rows that are enough for a statement: one for each token and one for the statement, or two for each token but two, whichever is more; none for no
+-- token.
 abbrev pub statement-rows : ℕ → ℕ
 statement-rows n = min (2 * n) (max (n + 1) (2 * n - 4))
 

@@ -65,6 +65,7 @@ abbrev nots : (place reference : ℕ) → List ℕ
 nots zero r = []
 nots (suc p) r = row 13 2 p r 0 0 0 0 ++ nots p (suc r)
 
+-- The sixteen examples.
 abbrev pub table : List Example
 table =
     -- (a) is refused 10 at a; (a.b) and (a;) are accepted

@@ -1,10 +1,10 @@
 // The rows of a pool, whose layout nothing else knows: a row is built behind those that are there, linked, marked and read.
 ghost use mathlib.Core.Path.{_≡_};
 ghost use mathlib.Core.List.{_++_};
-ghost use Prim.Native.Nat.{_*_, _≤_};
+ghost use Prim.Native.Nat.{_*_, _^_, _≤_, _<_};
 ghost use lib.ListN.{length, drop, replicate};
 ghost use Rattle.grammar.specs.Tree.{width, flag};
-ghost use Rattle.grammar.specs.Script.{rows};
+ghost use Rattle.grammar.specs.Script.{rows, seat};
 ghost use Rattle.rows.specs.Rows.{words, Builds, is-row, linked, marked, bit, read};
 
 // How many words a row takes.
@@ -100,12 +100,20 @@ fn is_row(words: usize, reference: usize) -> bool
     }
 }
 
+// Where a word of the row with a reference stands.
+fn seat_of(reference: usize, k: usize) -> usize
+    requires { ⌜ (0 < reference) × (seat reference k < 2 ^ 64) ⌝ }
+    ensures { λ r. ⌜ r ≡ seat reference k ⌝ }
+{
+    WIDTH * (reference - 1) + k
+}
+
 // The row with this reference gets a row behind it in its list; nothing changes where there is no such row.
 pub fn link(pool: &mut [u32], reference: usize, next: u32)
     ensures { λ r. ⌜ now (pool .exit) ≡ linked (now (pool .entry)) reference next ⌝ }
 {
     if is_row(pool.len(), reference) {
-        let i = WIDTH * (reference - 1) + NEXT;
+        let i = seat_of(reference, NEXT);
         pool[i] = next;
     }
 }
@@ -131,7 +139,7 @@ pub fn mark(pool: &mut [u32], reference: usize, f: Flag)
     ensures { λ r. ⌜ now (pool .exit) ≡ marked (now (pool .entry)) reference f ⌝ }
 {
     if is_row(pool.len(), reference) {
-        let i = WIDTH * (reference - 1) + MARK;
+        let i = seat_of(reference, MARK);
         pool[i] = with_flag(pool[i], f);
     }
 }
@@ -146,7 +154,7 @@ pub fn word(pool: &[u32], reference: usize, k: usize) -> u32
     if WIDTH <= k {
         return 0;
     }
-    let i = WIDTH * (reference - 1) + k;
+    let i = seat_of(reference, k);
     pool[i]
 }
 

@@ -10,27 +10,21 @@ use Rattle.rows.proofs.link.Tie as tie
 is-row-requires : tie.Need-is-row-requires
 is-row-requires c κs = tt
 
-sub-i : tie.Need-sub-i
-sub-i c = inside _ _ (sym (c .before .is-row .ensures) ∙ c .if1 .taken) .0
-
-mul-i : tie.Need-mul-i
-mul-i c = omega (arith, inside _ _ (sym (c .before .is-row .ensures) ∙ c .if1 .taken))
-
-add-i : tie.Need-add-i
-add-i c = omega (arith, inside _ _ (sym (c .before .is-row .ensures) ∙ c .if1 .taken))
+seat-of-requires : tie.Need-seat-of-requires
+seat-of-requires c κs = let i = inside _ _ (sym (c .before .is-row .ensures) ∙ c .if1 .taken) in (i .0, omega (arith, i))
 
 mul-pool : tie.Need-mul-pool
-mul-pool c = omega (arith, inside _ _ (sym (c .before .is-row .ensures) ∙ c .if1 .taken))
+mul-pool c = omega (arith, inside _ _ (sym (c .before .before .is-row .ensures) ∙ c .before .if1 .taken), c .seat-of .ensures)
 
 slice-write-pool : tie.Need-slice-write-pool
-slice-write-pool c = omega (arith, inside _ _ (sym (c .before .is-row .ensures) ∙ c .if1 .taken))
+slice-write-pool c = omega (arith, inside _ _ (sym (c .before .before .is-row .ensures) ∙ c .before .if1 .taken), c .seat-of .ensures)
 
 same-length : tie.Need-same-length
 same-length c = search needs
 
 returns : tie.Need-returns
 unfolding linked
-returns c = rw (sym (c .before .is-row .ensures) ∙ c .if1 .taken)
+returns c = rw (sym (c .before .before .is-row .ensures) ∙ c .before .if1 .taken, c .seat-of .ensures)
 
 returns-2 : tie.Need-returns-2
 unfolding linked
@@ -41,9 +35,7 @@ link-spec =
     tie.close
     (tie.spec
     is-row-requires
-    sub-i
-    mul-i
-    add-i
+    seat-of-requires
     mul-pool
     slice-write-pool
     same-length

@@ -19,24 +19,18 @@ returns-2 : tie.Need-returns-2
 unfolding read
 returns-2 c = rw (sym (c .before .before .is-row .ensures) ∙ not-false _ (c .before .if1 .left), le-ltb _ _ (c .if2 .taken))
 
-sub-i : tie.Need-sub-i
-sub-i c = inside _ _ (sym (c .before .before .is-row .ensures) ∙ not-false _ (c .before .if1 .left)) .0
-
-mul-i : tie.Need-mul-i
-mul-i c = omega (arith, inside _ _ (sym (c .before .before .is-row .ensures) ∙ not-false _ (c .before .if1 .left)))
-
-add-i : tie.Need-add-i
-add-i c = omega (arith, inside _ _ (sym (c .before .before .is-row .ensures) ∙ not-false _ (c .before .if1 .left)))
+seat-of-requires : tie.Need-seat-of-requires
+seat-of-requires c κs = let i = inside _ _ (sym (c .before .before .is-row .ensures) ∙ not-false _ (c .before .if1 .left)) in (i .0, omega (arith, i))
 
 mul-result : tie.Need-mul-result
-mul-result c = omega (arith, inside _ _ (sym (c .before .before .is-row .ensures) ∙ not-false _ (c .before .if1 .left)))
+mul-result c = omega (arith, inside _ _ (sym (c .before .before .before .is-row .ensures) ∙ not-false _ (c .before .before .if1 .left)), c .seat-of .ensures)
 
 shared-slice-read-result : tie.Need-shared-slice-read-result
-shared-slice-read-result c = omega (arith, inside _ _ (sym (c .before .before .before .is-row .ensures) ∙ not-false _ (c .before .before .if1 .left)))
+shared-slice-read-result c = omega (arith, inside _ _ (sym (c .before .before .before .before .is-row .ensures) ∙ not-false _ (c .before .before .before .if1 .left)), c .before .seat-of .ensures)
 
 returns-3 : tie.Need-returns-3
 unfolding read
-returns-3 c = rw (sym (c .before .before .before .is-row .ensures) ∙ not-false _ (c .before .before .if1 .left), lt-ltb _ _ (c .before .if2 .left))
+returns-3 c = rw (sym (c .before .before .before .before .is-row .ensures) ∙ not-false _ (c .before .before .before .if1 .left), lt-ltb _ _ (c .before .before .if2 .left), c .before .seat-of .ensures)
 
 pub word-spec : {M : Type 1} → statement M
 word-spec =
@@ -45,9 +39,7 @@ word-spec =
     is-row-requires
     returns
     returns-2
-    sub-i
-    mul-i
-    add-i
+    seat-of-requires
     mul-result
     shared-slice-read-result
     returns-3)
