@@ -19,10 +19,10 @@ accepts (refused n p) h e = absurd (h p (ap (λ (k : ℕ). refused k p) e))
 accepts (read us at left) h e = record { trees = us; at = at; left = left; accepted = refl }
 
 pub zero-accepts : ZeroAccepts
-zero-accepts ts start room = (
-  accepts (one-expression ts start room) (λ place. never-unreached ts start room place .0),
-  accepts (one-statement ts start room) (λ place. never-unreached ts start room place .1),
-  accepts (whole-script ts room) (λ place. never-unreached ts start room place .2),
+zero-accepts rules ts start room = (
+  accepts (one-expression rules ts start room) (λ place. never-unreached rules ts start room place .0),
+  accepts (one-statement rules ts start room) (λ place. never-unreached rules ts start room place .1),
+  accepts (whole-script rules ts room) (λ place. never-unreached rules ts start room place .2),
 )
 
 -- A pool's rows hold no more words than it has, and more words are no fewer rows.
@@ -54,17 +54,17 @@ module _ (entry : (room : ℕ) → Parsed Trees)
         (rw (e, e′), rw (e, e′, z) (rw append-assoc (rw replicate-append-replicate)))
 
 pub words-more : MoreWords
-words-more ts start = (
-  larger (λ room. one-expression ts start room) (λ room place. never-unreached ts start room place .0)
-      (λ room us at left. laws.rows ts start room us at left .0) (λ room more us at left. rows-more ts start room more us at left .0),
-  larger (λ room. one-statement ts start room) (λ room place. never-unreached ts start room place .1)
-      (λ room us at left. laws.rows ts start room us at left .1) (λ room more us at left. rows-more ts start room more us at left .1),
-  larger (λ room. whole-script ts room) (λ room place. never-unreached ts start room place .2)
-      (λ room us at left. laws.rows ts start room us at left .2) (λ room more us at left. rows-more ts start room more us at left .2),
+words-more rules ts start = (
+  larger (λ room. one-expression rules ts start room) (λ room place. never-unreached rules ts start room place .0)
+      (λ room us at left. laws.rows rules ts start room us at left .0) (λ room more us at left. rows-more rules ts start room more us at left .0),
+  larger (λ room. one-statement rules ts start room) (λ room place. never-unreached rules ts start room place .1)
+      (λ room us at left. laws.rows rules ts start room us at left .1) (λ room more us at left. rows-more rules ts start room more us at left .1),
+  larger (λ room. whole-script rules ts room) (λ room place. never-unreached rules ts start room place .2)
+      (λ room us at left. laws.rows rules ts start room us at left .2) (λ room more us at left. rows-more rules ts start room more us at left .2),
 )
 
 pub answers : AnswersChains
 unfolding answer pool lays
-answers ts deep s at used parts g words h =
-    let e : one-expression ts s (rows words) ≡ read (g .tree ▸ nil) at (rows words - used) = g .accepted (rows words) (rows words - used) (omega arith) in
+answers rules ts deep s at used parts g words h =
+    let e : one-expression rules ts s (rows words) ≡ read (g .tree ▸ nil) at (rows words - used) = g .accepted (rows words) (rows words - used) (omega arith) in
     (rw (e, add-zero, g .rows-used), rw (e, add-zero, g .rows-used, append-nil))

@@ -11,6 +11,7 @@ use borrow.Author.Tests.{lt-ltb, le-ltb, eqb-false, ne-eqb}
 use Rattle.grammar.specs.Words.{EOF, SSemiColon, SDot, tok, step, is, next-is, class, code, by-code, orders, Zero, order, infix-of, goes-on}
 use Rattle.grammar.specs.Tree.{Tree, size}
 use Rattle.grammar.specs.Parsed.{read, _>>=_, _>>_, need, build, choose, match, turns}
+use Rattle.grammar.specs.Rules.{Rules}
 use Rattle.grammar.specs.Expressions.{Rec, get-identifier, dot-expression, prefix-part, level, expression}
 use Rattle.grammar.specs.Script.{nesting}
 use Rattle.grammar.specs.Claims.{Part, Value, an-identifier, an-integer, a-float, a-char, a-string, a-true, a-false, a-none, Chain, one, more}
@@ -24,18 +25,18 @@ record Valued (w : ℕ) (row : ℕ → Tree) : Type 0 where
   no-semicolon : eqb w SSemiColon ≡ false
   no-end : eqb w EOF ≡ false
   one-row : (s : ℕ) → size (row s) ≡ 1
-  reads : (ts : List ℕ) (rec : Rec) (s m : ℕ) → tok ts s ≡ w → eqb (tok ts (step ts s)) SDot ≡ false → prefix-part ts rec s (suc m) ≡ read (row s) s m
+  reads : (rules : Rules) (ts : List ℕ) (rec : Rec) (s m : ℕ) → tok ts s ≡ w → eqb (tok ts (step ts s)) SDot ≡ false → prefix-part rules ts rec s (suc m) ≡ read (row s) s m
 
 valued : {w : ℕ} {row : ℕ → Tree} → Value w row → Valued w row
 unfolding order by-code orders class code prefix-part match choose build dot-expression get-identifier need _>>_ _>>=_ is next-is
-valued an-identifier = record { zero-order = refl; no-semicolon = refl; no-end = refl; one-row = λ s. refl; reads = λ ts rec s m e h. rw (e, h) }
-valued an-integer = record { zero-order = refl; no-semicolon = refl; no-end = refl; one-row = λ s. refl; reads = λ ts rec s m e h. rw e }
-valued a-float = record { zero-order = refl; no-semicolon = refl; no-end = refl; one-row = λ s. refl; reads = λ ts rec s m e h. rw e }
-valued a-char = record { zero-order = refl; no-semicolon = refl; no-end = refl; one-row = λ s. refl; reads = λ ts rec s m e h. rw e }
-valued a-string = record { zero-order = refl; no-semicolon = refl; no-end = refl; one-row = λ s. refl; reads = λ ts rec s m e h. rw e }
-valued a-true = record { zero-order = refl; no-semicolon = refl; no-end = refl; one-row = λ s. refl; reads = λ ts rec s m e h. rw e }
-valued a-false = record { zero-order = refl; no-semicolon = refl; no-end = refl; one-row = λ s. refl; reads = λ ts rec s m e h. rw e }
-valued a-none = record { zero-order = refl; no-semicolon = refl; no-end = refl; one-row = λ s. refl; reads = λ ts rec s m e h. rw e }
+valued an-identifier = record { zero-order = refl; no-semicolon = refl; no-end = refl; one-row = λ s. refl; reads = λ rules ts rec s m e h. rw (e, h) }
+valued an-integer = record { zero-order = refl; no-semicolon = refl; no-end = refl; one-row = λ s. refl; reads = λ rules ts rec s m e h. rw e }
+valued a-float = record { zero-order = refl; no-semicolon = refl; no-end = refl; one-row = λ s. refl; reads = λ rules ts rec s m e h. rw e }
+valued a-char = record { zero-order = refl; no-semicolon = refl; no-end = refl; one-row = λ s. refl; reads = λ rules ts rec s m e h. rw e }
+valued a-string = record { zero-order = refl; no-semicolon = refl; no-end = refl; one-row = λ s. refl; reads = λ rules ts rec s m e h. rw e }
+valued a-true = record { zero-order = refl; no-semicolon = refl; no-end = refl; one-row = λ s. refl; reads = λ rules ts rec s m e h. rw e }
+valued a-false = record { zero-order = refl; no-semicolon = refl; no-end = refl; one-row = λ s. refl; reads = λ rules ts rec s m e h. rw e }
+valued a-none = record { zero-order = refl; no-semicolon = refl; no-end = refl; one-row = λ s. refl; reads = λ rules ts rec s m e h. rw e }
 
 -- A loop has turns. A semicolon stops it, and no dot has the order Zero.
 some-turns : turns ≡ suc (turns - 1)
@@ -50,7 +51,7 @@ zero-dot : (w : ℕ) → order w ≡ Zero → eqb w SDot ≡ false
 unfolding order by-code orders class code
 zero-dot w e = ne-eqb w SDot (λ q. let z : _≡_ {A = ℕ} 14 0 = rw q at e in omega arith)
 
-module _ (ts : List ℕ) where
+module _ (rules : Rules) (ts : List ℕ) where
   -- What holds of the word at a place and of the one behind it holds of the next.
   next : (P : ℕ → Type 0) (at : ℕ) → P (tok ts at) → P (tok ts (at + 1)) → P (tok ts (step ts at))
   unfolding step
@@ -75,18 +76,18 @@ module _ (ts : List ℕ) where
   -- A value is an operand: where an operator or an end follows, and where a semicolon does.
   module _ (s : ℕ) (row : ℕ → Tree) (v : Valued (tok ts s) row) where
     value-operand : eqb (tok ts (step ts s)) SDot ≡ false → eqb (tok ts (step ts s)) SSemiColon ≡ false → goes-on DivMulMod (tok ts (step ts s)) ≡ false
-        → expression ts 1 DivMulMod s (size (row s)) ≡ read (row s) s 0
+        → expression rules ts 1 DivMulMod s (size (row s)) ≡ read (row s) s 0
     unfolding expression level next-is is choose _>>=_
     value-operand dot semi stop =
-        rw (v .one-row s, v .reads ts (expression ts 0) s 0 refl dot, semi, some-turns) (stopped ts (expression ts 0) DivMulMod (turns - 1) (row s) s 0 stop)
+        rw (v .one-row s, v .reads rules ts (expression rules ts 0) s 0 refl dot, semi, some-turns) (stopped rules ts (expression rules ts 0) DivMulMod (turns - 1) (row s) s 0 stop)
 
-    value-semicolon : tok ts (step ts s) ≡ SSemiColon → expression ts 1 DivMulMod s (size (row s)) ≡ read (row s) (step ts s) 0
+    value-semicolon : tok ts (step ts s) ≡ SSemiColon → expression rules ts 1 DivMulMod s (size (row s)) ≡ read (row s) (step ts s) 0
     unfolding expression level next-is is choose _>>=_
-    value-semicolon semi = rw (v .one-row s, v .reads ts (expression ts 0) s 0 refl (rw semi), semi)
+    value-semicolon semi = rw (v .one-row s, v .reads rules ts (expression rules ts 0) s 0 refl (rw semi), semi)
 
   -- Behind the last value: where the reader stands, and that the loop stops there.
   record Last (s c : ℕ) (row : ℕ → Tree) : Type 0 where
-    last : expression ts 1 DivMulMod s (size (row s)) ≡ read (row s) c 0
+    last : expression rules ts 1 DivMulMod s (size (row s)) ≡ read (row s) c 0
     stops : goes-on Zero (tok ts (step ts c)) ≡ false
 
   ended : (s c : ℕ) (row : ℕ → Tree) → Valued (tok ts s) row → Ended ts s c → Last s c row
@@ -114,7 +115,7 @@ module _ (ts : List ℕ) where
   places {s} (more v i c) = let x = valued v in (omega arith, inside s (eqb-false _ _ (x .no-end)), omega (arith, places c, x .one-row s))
 
   chain-operands : {s n : ℕ} {parts : List Part} (e c : ℕ) → Chain ts s n parts → s + 2 * n ≡ e + 2 → Ended ts e c
-      → Operands ts 1 s c parts × (goes-on Zero (tok ts (step ts c)) ≡ false)
+      → Operands rules ts 1 s c parts × (goes-on Zero (tok ts (step ts c)) ≡ false)
   chain-operands {s} e c (one {row} v) q h =
       let here : e ≡ s = omega arith in
       let l = ended s c row (valued v) (rw here at h) in
@@ -129,13 +130,13 @@ module _ (ts : List ℕ) where
       let first =
       value-operand s row (valued v) (rw on (no-infix SDot w (others .dot) some)) (rw on (no-infix SSemiColon w (others .semicolon) some))
       (rw on high) in
-      let rest : Operands ts 1 (step ts (s + 1)) c parts = rw on′ (x .0) in
+      let rest : Operands rules ts 1 (step ts (s + 1)) c parts = rw on′ (x .0) in
       (further first (eqb-false _ _ ((valued v) .no-semicolon)) on i rest, x .1)
 
 pub chains : GroupsChains
 unfolding nesting
-chains ts s n at parts valid chain end =
-    let p = places ts chain in
-    let x = chain-operands ts (s + 2 * n - 2) at chain (omega (arith, p)) end in
+chains rules ts s n at parts valid chain end =
+    let p = places rules ts chain in
+    let x = chain-operands rules ts (s + 2 * n - 2) at chain (omega (arith, p)) end in
     let e : 2 * n - 1 ≡ rows-of parts = omega (arith, p) in
-    rw e (operands ts 1 s at parts valid (x .0) (x .1) (omega arith))
+    rw e (operands rules ts 1 s at parts valid (x .0) (x .1) (omega arith))

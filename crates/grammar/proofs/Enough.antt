@@ -11,6 +11,7 @@ use borrow.Author.Tests.{eqb-true, eqb-false}
 use Rattle.grammar.specs.Words.{Identifier, SColon, SDot, EOF, Zero, tok, step, is, next-is}
 use Rattle.grammar.specs.Tree.{Tree, Trees, nil, _▸_, join, leaf, Thread, Async}
 use Rattle.grammar.specs.Parsed.{Parsed, Reader, _>>=_, build, match, turns, NoRow}
+use Rattle.grammar.specs.Rules.{Rules}
 use Rattle.grammar.specs.Expressions.{Rec, get-identifier, dots, dot-expression, no-prefix, entries, list-expr, pair, hash-literal, array}
 use Rattle.grammar.specs.Expressions.{lambda, started, prefix, sub-expression, command, shell, prefix-part, infix-expression, suffix-expression}
 use Rattle.grammar.specs.Expressions.{call, index, operation, climb, level, expression}
@@ -135,58 +136,58 @@ module _ (ts : List ℕ) (v : Valid ts) where
         fits = omega (arith, x .fits, q .paid .fits, h .on);
       }))
 
-  module _ (rec : Rec) (ih : (pre : ℕ) → Reads (rec pre)) where
+  module _ (rules : Rules) (rec : Rec) (ih : (pre : ℕ) → Reads (rec pre)) where
     pub rec-then : (A : Type 0) (pre at room : ℕ) → Then A at room (rec pre at room)
     rec-then A pre at room = read-then A (rec pre) at room (ih pre)
 
     entries-paid : (entry : Reader Tree) → Reads entry → (i s n k : ℕ) (list : Trees) (at room : ℕ) → Paid ts s n k at room
-        → Spares (λ us. Paid ts s n k) (entries ts rec entry i list at room)
+        → Spares (λ us. Paid ts s n k) (entries rules ts rec entry i list at room)
     unfolding entries
     entries-paid entry h zero s n k list at room x = refl
     entries-paid entry h (suc i) s n k list at room x = post-choose _ _ _ _ _
         (λ e. read-then _ entry _ room h _ _ s n k at x (up ts _ _ (up₀ ts (step ts at))) (λ t c m q. entries-paid entry h i s n k (join list (t ▸ nil)) c m q))
         (λ e. x)
 
-    pub list-paid : (s n k at room : ℕ) → Paid ts s n k at room → Spares (λ us. Paid ts s n k) (list-expr ts rec at room)
+    pub list-paid : (s n k at room : ℕ) → Paid ts s n k at room → Spares (λ us. Paid ts s n k) (list-expr rules ts rec at room)
     unfolding list-expr
     list-paid s n k at room x = post-choose _ _ _ _ _ (λ e. x)
         (λ e. rec-then _ Zero _ room _ _ s n k at x (up₀ ts (step ts at)) (λ t c m q. entries-paid (rec Zero) (ih Zero) turns s n k (t ▸ nil) c m q))
 
     pub list-then : (A : Type 0) (at room : ℕ) (R : Fact A) (f : Trees × ℕ × ℕ → Parsed A) (s n k c : ℕ) → Paid ts s n k c room → Ahead ts c at
-        → ((us : Trees) (c m : ℕ) → Paid ts s n k c m → Spares R (f (us, c, m))) → Spares R (list-expr ts rec at room >>= f)
+        → ((us : Trees) (c m : ℕ) → Paid ts s n k c m → Spares R (f (us, c, m))) → Spares R (list-expr rules ts rec at room >>= f)
     list-then A at room R f s n k c x h = post-then _ _ R _ f (list-paid s n k at room (later x h))
 
     pub ruleset walk = (post-refused, post-need, post-choose, row, up₀, up, rec-then, list-then)
 
-    pair-reads : Reads (pair ts rec)
+    pair-reads : Reads (pair rules ts rec)
     unfolding pair
     pair-reads at room h g = post-then _ _ _ _ _ (ih Zero at room h g) (λ t c m q. post-need _ _ _ _ _ _ refl (λ e.
         let r = signed 0 SColon (q .paid) refl e in search walk depth 9))
 
     pairs-then : (A : Type 0) (R : Fact A) (f : Trees × ℕ × ℕ → Parsed A) (s n k : ℕ) (list : Trees) (at room : ℕ) → Paid ts s n k at room
-        → ((us : Trees) (c m : ℕ) → Paid ts s n k c m → Spares R (f (us, c, m))) → Spares R (entries ts rec (pair ts rec) turns list at room >>= f)
-    pairs-then A R f s n k list at room x = post-then _ _ R _ f (entries-paid (pair ts rec) pair-reads turns s n k list at room x)
+        → ((us : Trees) (c m : ℕ) → Paid ts s n k c m → Spares R (f (us, c, m))) → Spares R (entries rules ts rec (pair rules ts rec) turns list at room >>= f)
+    pairs-then A R f s n k list at room x = post-then _ _ R _ f (entries-paid (pair rules ts rec) pair-reads turns s n k list at room x)
 
-    pair-then : (A : Type 0) (at room : ℕ) → Then A at room (pair ts rec at room)
-    pair-then A at room = read-then A (pair ts rec) at room pair-reads
+    pair-then : (A : Type 0) (at room : ℕ) → Then A at room (pair rules ts rec at room)
+    pair-then A at room = read-then A (pair rules ts rec) at room pair-reads
 
-    hash-takes : Takes (hash-literal ts rec)
+    hash-takes : Takes (hash-literal rules ts rec)
     unfolding hash-literal
     hash-takes at room r = search (walk, pair-then, pairs-then) depth 12
 
-    array-takes : Takes (array ts rec)
+    array-takes : Takes (array rules ts rec)
     unfolding array
     array-takes at room r = search walk depth 12
 
-    lambda-takes : Takes (lambda ts rec)
+    lambda-takes : Takes (lambda rules ts rec)
     unfolding lambda
     lambda-takes at room r = search walk depth 12
 
-    prefix-takes : (mark : ℕ) → Takes (prefix ts rec mark)
+    prefix-takes : (mark : ℕ) → Takes (prefix rules ts rec mark)
     unfolding prefix
     prefix-takes mark at room r = search walk depth 12
 
-    shell-takes : Takes (shell ts rec)
+    shell-takes : Takes (shell rules ts rec)
     unfolding shell command
     shell-takes at room r = search walk depth 12
 
@@ -200,16 +201,16 @@ module _ (ts : List ℕ) (v : Valid ts) where
         let p : Paid ts at room 0 c m = record { within = q .paid .within; given = r .given; fewer = q .paid .fewer; fits = omega (arith, q .paid .fits, step-on ts at) } in
         record { paid = later p h; some = q .some })
 
-    started-takes : (f : ℕ) → Takes (started ts rec f)
+    started-takes : (f : ℕ) → Takes (started rules ts rec f)
     unfolding started
     started-takes f at room r = post-then _ _ _ _ _ (next-took at room r) (λ t c m q. post-need _ _ _ _ _ _ refl (λ e. q _ c (up₀ ts c)))
 
-    sub-takes : Takes (sub-expression ts rec)
+    sub-takes : Takes (sub-expression rules ts rec)
     unfolding sub-expression
     sub-takes at room r = post-need _ _ _ _ _ _ refl (λ e. post-then _ _ _ _ _ (next-took at room r) (λ t c m q.
         post-need _ _ _ _ _ _ refl (λ e′. q _ _ (up ts c c (up₀ ts c)))))
 
-    prefix-part-takes : Takes (prefix-part ts rec)
+    prefix-part-takes : Takes (prefix-part rules ts rec)
     unfolding prefix-part
     prefix-part-takes at room r = match-each _ _ _ (tok ts at) (no-prefix ts)
         (dot-takes ▹ leaf-takes 3 0 ▹ leaf-takes 4 0 ▹ leaf-takes 5 0 ▹ leaf-takes 6 0 ▹ leaf-takes 7 1 ▹ leaf-takes 7 0 ▹ lambda-takes ▹ leaf-takes 1 0
@@ -217,11 +218,11 @@ module _ (ts : List ℕ) (v : Valid ts) where
         ▹ sub-takes ▹ shell-takes ▹ end)
         no-prefix-takes at room r
 
-    operation-takes : (s n : ℕ) (left : Tree) (start room : ℕ) → Paid ts s n 1 start room → Spares (Took ts s n) (operation ts rec left start room)
+    operation-takes : (s n : ℕ) (left : Tree) (start room : ℕ) → Paid ts s n 1 start room → Spares (Took ts s n) (operation rules ts rec left start room)
     unfolding operation match suffix-expression call index infix-expression
     operation-takes s n left start room r = search walk depth 14
 
-    climb-takes : (pre i s n : ℕ) (t : Tree) (c m : ℕ) → Took ts s n t c m → Spares (Took ts s n) (climb ts rec pre i t c m)
+    climb-takes : (pre i s n : ℕ) (t : Tree) (c m : ℕ) → Took ts s n t c m → Spares (Took ts s n) (climb rules ts rec pre i t c m)
     unfolding climb
     climb-takes pre zero s n t c m q = refl
     climb-takes pre (suc i) s n t c m q = post-choose _ _ _ _ _
@@ -232,13 +233,13 @@ module _ (ts : List ℕ) (v : Valid ts) where
         post-then _ _ _ _ _ (operation-takes s n t (step ts c) m p) (λ t′ c′ m′ q′. climb-takes pre i s n t′ c′ m′ q′))
         (λ g. q)
 
-    level-reads : (pre at room : ℕ) → Paid ts at room 1 at room → Spares (Took ts at room) (level ts rec pre at room)
+    level-reads : (pre at room : ℕ) → Paid ts at room 1 at room → Spares (Took ts at room) (level rules ts rec pre at room)
     unfolding level
     level-reads pre at room r = post-then _ _ _ _ _ (prefix-part-takes at room r) (λ t c m q. post-choose _ _ _ _ _
         (λ e. record { paid = later (q .paid) (up ts c c (up₀ ts c)); some = q .some }) (λ e. climb-takes pre turns at room t c m q))
 
-  pub expression-reads : (d pre : ℕ) → Reads (expression ts d pre)
+  pub expression-reads : (rules : Rules) (d pre : ℕ) → Reads (expression rules ts d pre)
   unfolding expression
-  expression-reads zero pre at room h g = refl
-  expression-reads (suc d) pre at room h g = but-at-eof ts (Took ts at room) at (expression ts (suc d) pre at room) (expression-eof ts at _ refl refl (suc d) pre room)
-      (λ n. level-reads (expression ts d) (expression-reads d) pre at room (begin at room h g n))
+  expression-reads rules zero pre at room h g = refl
+  expression-reads rules (suc d) pre at room h g = but-at-eof ts (Took ts at room) at (expression rules ts (suc d) pre at room) (expression-eof ts at _ refl refl rules (suc d) pre room)
+      (λ n. level-reads rules (expression rules ts d) (expression-reads rules d) pre at room (begin at room h g n))

@@ -10,6 +10,7 @@ use Rattle.grammar.specs.Tree.{Tree, Trees, Thread, Async}
 use Rattle.grammar.specs.Tree as tree
 use Rattle.grammar.specs.Parsed.{Parsed, refused, read, Reader, _>>=_, _>>_, Check, met, failed, build, choose, Arm, _⇒_, match}
 use Rattle.grammar.specs.Parsed.{BreakWithoutSemicolon, ContinueWithoutSemicolon}
+use Rattle.grammar.specs.Rules.{Rules}
 use Rattle.grammar.specs.Expressions as e
 use Rattle.grammar.specs.Statements as s
 use Rattle.grammar.specs.Claims.{MoreNesting, MoreRows}
@@ -65,7 +66,7 @@ below-match {k} w f g (r ▹ rs) h at room = below-choose k _ _ _ _ _ (r at room
 
 ruleset parts = (below-then, below-check, below-choose, below-build, below-read, below-refused)
 
-module _ (k : ℕ) (ts : List ℕ) where
+module _ (k : ℕ) (rules : Rules) (ts : List ℕ) where
   identifier-under : (made : ℕ → Tree) → Under k (e.get-identifier ts made) (e.get-identifier ts made)
   unfolding e.get-identifier
   identifier-under made at room = search parts
@@ -84,205 +85,205 @@ module _ (k : ℕ) (ts : List ℕ) where
   no-prefix-under at room = search parts
 
   module _ (a b : e.Rec) (rec : (pre : ℕ) → Under k (a pre) (b pre)) where
-    entries-under : (f g : Reader Tree) → Under k f g → (i : ℕ) (list : Trees) → Under k (e.entries ts a f i list) (e.entries ts b g i list)
+    entries-under : (f g : Reader Tree) → Under k f g → (i : ℕ) (list : Trees) → Under k (e.entries rules ts a f i list) (e.entries rules ts b g i list)
     unfolding e.entries
     entries-under f g h zero list at room = tt
     entries-under f g h (suc i) list at room = let more = entries-under f g h i in search (parts, more) depth 9
 
-    list-under : Under k (e.list-expr ts a) (e.list-expr ts b)
+    list-under : Under k (e.list-expr rules ts a) (e.list-expr rules ts b)
     unfolding e.list-expr
     list-under at room = search (parts, entries-under) depth 9
 
-    pair-under : Under k (e.pair ts a) (e.pair ts b)
+    pair-under : Under k (e.pair rules ts a) (e.pair rules ts b)
     unfolding e.pair
     pair-under at room = search parts depth 9
 
     ruleset walk = (parts, identifier-under, dots-under, list-under, pair-under, entries-under)
 
-    lambda-under : Under k (e.lambda ts a) (e.lambda ts b)
+    lambda-under : Under k (e.lambda rules ts a) (e.lambda rules ts b)
     unfolding e.lambda
     lambda-under at room = search walk depth 9
 
-    started-under : (flag : ℕ) → Under k (e.started ts a flag) (e.started ts b flag)
+    started-under : (flag : ℕ) → Under k (e.started rules ts a flag) (e.started rules ts b flag)
     unfolding e.started
     started-under flag at room = search walk depth 9
 
-    array-under : Under k (e.array ts a) (e.array ts b)
+    array-under : Under k (e.array rules ts a) (e.array rules ts b)
     unfolding e.array
     array-under at room = search walk depth 9
 
-    hash-under : Under k (e.hash-literal ts a) (e.hash-literal ts b)
+    hash-under : Under k (e.hash-literal rules ts a) (e.hash-literal rules ts b)
     unfolding e.hash-literal
     hash-under at room = search walk depth 9
 
-    prefix-under : (mark : ℕ) → Under k (e.prefix ts a mark) (e.prefix ts b mark)
+    prefix-under : (mark : ℕ) → Under k (e.prefix rules ts a mark) (e.prefix rules ts b mark)
     unfolding e.prefix
     prefix-under mark at room = search walk depth 9
 
-    sub-under : Under k (e.sub-expression ts a) (e.sub-expression ts b)
+    sub-under : Under k (e.sub-expression rules ts a) (e.sub-expression rules ts b)
     unfolding e.sub-expression
     sub-under at room = search walk depth 9
 
-    shell-under : Under k (e.shell ts a) (e.shell ts b)
+    shell-under : Under k (e.shell rules ts a) (e.shell rules ts b)
     unfolding e.shell e.command
     shell-under at room = search walk depth 9
 
     leaf-under : (made : ℕ → Tree) → Under k (λ at. build (made at) at) (λ at. build (made at) at)
     leaf-under made at room = below-build k (made at) at room
 
-    prefix-part-under : Under k (e.prefix-part ts a) (e.prefix-part ts b)
+    prefix-part-under : Under k (e.prefix-part rules ts a) (e.prefix-part rules ts b)
     unfolding e.prefix-part
     prefix-part-under at room = below-match (tok ts at) (e.no-prefix ts) (e.no-prefix ts)
         (dot-under ▹ leaf-under tree.int ▹ leaf-under tree.float ▹ leaf-under tree.char ▹ leaf-under tree.string ▹ leaf-under (tree.bool 1) ▹ leaf-under (tree.bool 0) ▹ lambda-under
         ▹ leaf-under tree.none ▹ started-under Thread ▹ started-under Async ▹ array-under ▹ hash-under ▹ prefix-under 0 ▹ prefix-under 1 ▹ prefix-under 2 ▹ prefix-under 3
         ▹ sub-under ▹ shell-under ▹ end) no-prefix-under at room
 
-    operation-under : (t : Tree) → Under k (e.operation ts a t) (e.operation ts b t)
+    operation-under : (t : Tree) → Under k (e.operation rules ts a t) (e.operation rules ts b t)
     unfolding e.operation match e.suffix-expression e.call e.index e.infix-expression
     operation-under t at room = search walk depth 15
 
-    climb-under : (pre i : ℕ) (t : Tree) → Under k (e.climb ts a pre i t) (e.climb ts b pre i t)
+    climb-under : (pre i : ℕ) (t : Tree) → Under k (e.climb rules ts a pre i t) (e.climb rules ts b pre i t)
     unfolding e.climb
     climb-under pre zero t at room = tt
     climb-under pre (suc i) t at room = let more = climb-under pre i in search (parts, operation-under, more) depth 9
 
-    level-under : (pre : ℕ) → Under k (e.level ts a pre) (e.level ts b pre)
+    level-under : (pre : ℕ) → Under k (e.level rules ts a pre) (e.level rules ts b pre)
     unfolding e.level
     level-under pre at room = search (parts, prefix-part-under, climb-under) depth 9
 
-  expression-under : (d d′ : ℕ) → d ≤ d′ → (pre : ℕ) → Under k (e.expression ts d pre) (e.expression ts d′ pre)
+  expression-under : (d d′ : ℕ) → d ≤ d′ → (pre : ℕ) → Under k (e.expression rules ts d pre) (e.expression rules ts d′ pre)
   unfolding e.expression
   expression-under zero d′ h pre at room = tt
   expression-under (suc d) zero h pre at room = absurd (omega arith)
-  expression-under (suc d) (suc d′) h pre at room = level-under (e.expression ts d) (e.expression ts d′) (expression-under d d′ (omega arith)) pre at room
+  expression-under (suc d) (suc d′) h pre at room = level-under (e.expression rules ts d) (e.expression rules ts d′) (expression-under d d′ (omega arith)) pre at room
 
   module _ (a b : e.Rec) (rec : (pre : ℕ) → Under k (a pre) (b pre)) (f g : Reader Trees) (stmt : Under k f g) where
-    exprs-under : Under k (e.list-expr ts a) (e.list-expr ts b)
+    exprs-under : Under k (e.list-expr rules ts a) (e.list-expr rules ts b)
     exprs-under = list-under a b rec
 
-    statements-under : (close i : ℕ) (list : Trees) → Under k (s.statements ts a f close i list) (s.statements ts b g close i list)
+    statements-under : (close i : ℕ) (list : Trees) → Under k (s.statements rules ts a f close i list) (s.statements rules ts b g close i list)
     unfolding s.statements
     statements-under close zero list at room = tt
     statements-under close (suc i) list at room = let more = statements-under close i in search (parts, more) depth 9
 
-    block-under : Under k (s.block ts a f) (s.block ts b g)
+    block-under : Under k (s.block rules ts a f) (s.block rules ts b g)
     unfolding s.block s.opened
     block-under at room = search (parts, statements-under) depth 9
 
     ruleset bodies = (parts, exprs-under, block-under)
 
-    else-under : Under k (s.else ts a f) (s.else ts b g)
+    else-under : Under k (s.else rules ts a f) (s.else rules ts b g)
     unfolding s.else
     else-under at room = search bodies depth 9
 
-    finally-under : Under k (s.finally ts a f) (s.finally ts b g)
+    finally-under : Under k (s.finally rules ts a f) (s.finally rules ts b g)
     unfolding s.finally
     finally-under at room = search bodies depth 9
 
     ruleset every = (bodies, else-under, finally-under)
 
-    var-under : Under k (s.var ts a f) (s.var ts b g)
+    var-under : Under k (s.var rules ts a f) (s.var rules ts b g)
     unfolding s.var s.value
     var-under at room = search every depth 12
 
-    const-under : Under k (s.const ts a f) (s.const ts b g)
+    const-under : Under k (s.const rules ts a f) (s.const rules ts b g)
     unfolding s.const s.value
     const-under at room = search every depth 12
 
-    if-under : Under k (s.if ts a f) (s.if ts b g)
+    if-under : Under k (s.if rules ts a f) (s.if rules ts b g)
     unfolding s.if
     if-under at room = search every depth 12
 
-    assert-under : Under k (s.assert ts a f) (s.assert ts b g)
+    assert-under : Under k (s.assert rules ts a f) (s.assert rules ts b g)
     unfolding s.assert
     assert-under at room = search every depth 12
 
-    while-under : Under k (s.while ts a f) (s.while ts b g)
+    while-under : Under k (s.while rules ts a f) (s.while rules ts b g)
     unfolding s.while
     while-under at room = search every depth 12
 
-    return-under : Under k (s.return ts a f) (s.return ts b g)
+    return-under : Under k (s.return rules ts a f) (s.return rules ts b g)
     unfolding s.return
     return-under at room = search every depth 12
 
-    function-under : Under k (s.function ts a f) (s.function ts b g)
+    function-under : Under k (s.function rules ts a f) (s.function rules ts b g)
     unfolding s.function
     function-under at room = search every depth 12
 
-    for-under : Under k (s.for ts a f) (s.for ts b g)
+    for-under : Under k (s.for rules ts a f) (s.for rules ts b g)
     unfolding s.for
     for-under at room = search every depth 12
 
-    throw-under : Under k (s.throw ts a f) (s.throw ts b g)
+    throw-under : Under k (s.throw rules ts a f) (s.throw rules ts b g)
     unfolding s.throw
     throw-under at room = search every depth 12
 
-    try-under : Under k (s.try ts a f) (s.try ts b g)
+    try-under : Under k (s.try rules ts a f) (s.try rules ts b g)
     unfolding s.try
     try-under at room = search every depth 12
 
-    foreach-under : Under k (s.foreach ts a f) (s.foreach ts b g)
+    foreach-under : Under k (s.foreach rules ts a f) (s.foreach rules ts b g)
     unfolding s.foreach
     foreach-under at room = search every depth 12
 
-    plain-under : Under k (s.expression-statement ts a f) (s.expression-statement ts b g)
+    plain-under : Under k (s.expression-statement rules ts a f) (s.expression-statement rules ts b g)
     unfolding s.expression-statement
     plain-under at room = search every depth 12
 
-    alone-under : (made : ℕ → Tree) (number : ℕ) → Under k (s.alone ts a f made number) (s.alone ts b g made number)
+    alone-under : (made : ℕ → Tree) (number : ℕ) → Under k (s.alone rules ts a f made number) (s.alone rules ts b g made number)
     unfolding s.alone
     alone-under made number at room = search parts
 
-    begun-under : (x y : Reader Tree) → Under k x y → Under k (s.begun ts a f x) (s.begun ts b g y)
+    begun-under : (x y : Reader Tree) → Under k x y → Under k (s.begun rules ts a f x) (s.begun rules ts b g y)
     unfolding s.begun
     begun-under x y h at room = below-check k _ _ _ (h at room)
 
-    kept-under : Under k (s.kept ts a f) (s.kept ts b g)
+    kept-under : Under k (s.kept rules ts a f) (s.kept rules ts b g)
     unfolding s.kept
-    kept-under at room = below-match (tok ts at) (s.expression-statement ts a f) (s.expression-statement ts b g)
+    kept-under at room = below-match (tok ts at) (s.expression-statement rules ts a f) (s.expression-statement rules ts b g)
         (alone-under tree.break BreakWithoutSemicolon ▹ alone-under tree.continue ContinueWithoutSemicolon ▹ begun-under _ _ (λ at. var-under (step ts at))
         ▹ begun-under _ _ (λ at. const-under (step ts at)) ▹ begun-under _ _ if-under ▹ begun-under _ _ assert-under ▹ begun-under _ _ while-under ▹ return-under
         ▹ begun-under _ _ (λ at. function-under (step ts at)) ▹ begun-under _ _ for-under ▹ begun-under _ _ throw-under ▹ begun-under _ _ try-under ▹ begun-under _ _ foreach-under ▹ end)
         plain-under at room
 
-    statement-level-under : Under k (s.level ts a f) (s.level ts b g)
+    statement-level-under : Under k (s.level rules ts a f) (s.level rules ts b g)
     unfolding s.level
     statement-level-under at room = search (parts, kept-under) depth 9
 
-  statement-under : (d d′ : ℕ) → d ≤ d′ → Under k (s.statement ts d) (s.statement ts d′)
+  statement-under : (d d′ : ℕ) → d ≤ d′ → Under k (s.statement rules ts d) (s.statement rules ts d′)
   unfolding s.statement
   statement-under zero d′ h at room = tt
   statement-under (suc d) zero h at room = absurd (omega arith)
   statement-under (suc d) (suc d′) h at room =
       let le : d ≤ d′ = omega arith in
-      statement-level-under (e.expression ts d) (e.expression ts d′) (expression-under d d′ le) (s.statement ts d) (s.statement ts d′) (statement-under d d′ le) at room
+      statement-level-under (e.expression rules ts d) (e.expression rules ts d′) (expression-under d d′ le) (s.statement rules ts d) (s.statement rules ts d′) (statement-under d d′ le) at room
 
-  expression-entry : (start room : ℕ) → Below k (one-expression ts start room) (one-expression ts start (room + k))
+  expression-entry : (start room : ℕ) → Below k (one-expression rules ts start room) (one-expression rules ts start (room + k))
   unfolding one-expression
   expression-entry start room = let le : nesting ≤ nesting = omega arith in let more = expression-under nesting nesting le in search (parts, more) depth 9
 
-  statement-entry : (start room : ℕ) → Below k (one-statement ts start room) (one-statement ts start (room + k))
+  statement-entry : (start room : ℕ) → Below k (one-statement rules ts start room) (one-statement rules ts start (room + k))
   unfolding one-statement
   statement-entry start room = let le : nesting ≤ nesting = omega arith in let more = statement-under nesting nesting le in search (parts, more) depth 9
 
-  script-entry : (room : ℕ) → Below k (whole-script ts room) (whole-script ts (room + k))
+  script-entry : (room : ℕ) → Below k (whole-script rules ts room) (whole-script rules ts (room + k))
   unfolding whole-script
   script-entry room =
       let le : nesting ≤ nesting = omega arith in
       let exprs = expression-under nesting nesting le in
       let stmts = statement-under nesting nesting le in
-      let more = statements-under (e.expression ts nesting) (e.expression ts nesting) exprs (s.statement ts nesting) (s.statement ts nesting) stmts in
+      let more = statements-under (e.expression rules ts nesting) (e.expression rules ts nesting) exprs (s.statement rules ts nesting) (s.statement rules ts nesting) stmts in
       search (parts, more) depth 9
 
 pub nesting-more : MoreNesting
-nesting-more ts d d′ more at room c left h = (
-  λ pre t e. let b : Below more (read t c left) _ = rw e at (expression-under more ts d d′ h pre at room) in b,
-  λ us e. let b : Below more (read us c left) _ = rw e at (statement-under more ts d d′ h at room) in b,
+nesting-more rules ts d d′ more at room c left h = (
+  λ pre t e. let b : Below more (read t c left) _ = rw e at (expression-under more rules ts d d′ h pre at room) in b,
+  λ us e. let b : Below more (read us c left) _ = rw e at (statement-under more rules ts d d′ h at room) in b,
 )
 
 pub rows-more : MoreRows
-rows-more ts start room more us at left = (
-  λ e. let b : Below more (read us at left) _ = rw e at (expression-entry more ts start room) in b,
-  λ e. let b : Below more (read us at left) _ = rw e at (statement-entry more ts start room) in b,
-  λ e. let b : Below more (read us at left) _ = rw e at (script-entry more ts room) in b,
+rows-more rules ts start room more us at left = (
+  λ e. let b : Below more (read us at left) _ = rw e at (expression-entry more rules ts start room) in b,
+  λ e. let b : Below more (read us at left) _ = rw e at (statement-entry more rules ts start room) in b,
+  λ e. let b : Below more (read us at left) _ = rw e at (script-entry more rules ts room) in b,
 )

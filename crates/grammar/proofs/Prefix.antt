@@ -10,6 +10,7 @@ use borrow.Author.Tests.{eqb-true}
 use Rattle.grammar.specs.Words.{SSemiColon, tok, step, is, next-is, goes-on}
 use Rattle.grammar.specs.Tree.{Tree}
 use Rattle.grammar.specs.Parsed.{Parsed, refused, read, _>>=_, choose, turns}
+use Rattle.grammar.specs.Rules.{Rules}
 use Rattle.grammar.specs.Expressions.{Rec, prefix-part, operation, climb, level}
 use Rattle.grammar.specs.Claims.{DivMulMod}
 use Rattle.grammar.proofs.Steps.{goes-on-up}
@@ -26,11 +27,11 @@ lower pre pre′ w h e = go (goes-on pre w) refl
     go true q = refl
     go false q = sym (goes-on-up pre pre′ w h q) ∙ e
 
-module _ (ts : List ℕ) (rec : Rec) (pre : ℕ) where
+module _ (rules : Rules) (ts : List ℕ) (rec : Rec) (pre : ℕ) where
   -- y is the loop with the tree t in hand, and of F turns at the place s no more are spent than places were passed.
   pub record Led (F s : ℕ) (t : Tree) (c m : ℕ) (y : Parsed Tree) : Type 0 where
     pub turn : ℕ
-    pub same : y ≡ climb ts rec pre (suc turn) t c m
+    pub same : y ≡ climb rules ts rec pre (suc turn) t c m
     pub enough : F + s ≤ suc turn + c
 
   -- The same, where x accepts.
@@ -63,38 +64,38 @@ module _ (ts : List ℕ) (rec : Rec) (pre : ℕ) where
   begins-then s n (refused e p) f g h k = tt
   begins-then s n (read t c m) f g h k = k t c m h
 
-module _ (ts : List ℕ) (v : Valid ts) (rec : Rec) (ih : (pre at room : ℕ) → at < length ts → Post (Above ts pre at room) (rec pre at room))
+module _ (rules : Rules) (ts : List ℕ) (v : Valid ts) (rec : Rec) (ih : (pre at room : ℕ) → at < length ts → Post (Above ts pre at room) (rec pre at room))
     (pre : ℕ) (small : pre ≤ DivMulMod)
   where
     climb-leads : (i s n : ℕ) (t : Tree) (at room : ℕ) → Behind ts DivMulMod s n t at room
-        → Leads ts rec pre i at (climb ts rec DivMulMod i t at room) (climb ts rec pre i t at room)
+        → Leads rules ts rec pre i at (climb rules ts rec DivMulMod i t at room) (climb rules ts rec pre i t at room)
     unfolding climb choose
     climb-leads zero s n t at room b = tt
     climb-leads (suc i) s n t at room b = go (goes-on DivMulMod (tok ts (step ts at))) refl (climb-leads i (step ts at) n)
       where
         again : (pre : ℕ) → Tree × ℕ × ℕ → Parsed Tree
-        again pre (t, at, room) = climb ts rec pre i t at room
+        again pre (t, at, room) = climb rules ts rec pre i t at room
 
         go : (b : Bool) → goes-on DivMulMod (tok ts (step ts at)) ≡ b
-            → ((t : Tree) (c m : ℕ) → Behind ts DivMulMod (step ts at) n t c m → Leads ts rec pre i c (climb ts rec DivMulMod i t c m) (climb ts rec pre i t c m))
-            → Leads ts rec pre (suc i) at (choose b (λ _. operation ts rec t (step ts at) room >>= again DivMulMod) (λ _. read t at room))
-            (climb ts rec pre (suc i) t at room)
+            → ((t : Tree) (c m : ℕ) → Behind ts DivMulMod (step ts at) n t c m → Leads rules ts rec pre i c (climb rules ts rec DivMulMod i t c m) (climb rules ts rec pre i t c m))
+            → Leads rules ts rec pre (suc i) at (choose b (λ _. operation rules ts rec t (step ts at) room >>= again DivMulMod) (λ _. read t at room))
+            (climb rules ts rec pre (suc i) t at room)
         go true e more =
             let w : ℕ = tok ts (step ts at) in
             rw (lower pre DivMulMod w small e)
-            (turn-leads ts rec pre i at (step ts at) n _ _ _ (goes-forward ts v at (b .run .within) (inr (no-end DivMulMod w e)))
-            (operation-runs ts v rec ih DivMulMod s n t at room b e) more)
+            (turn-leads rules ts rec pre i at (step ts at) n _ _ _ (goes-forward ts v at (b .run .within) (inr (no-end DivMulMod w e)))
+            (operation-runs ts v rules rec ih DivMulMod s n t at room b e) more)
         go false e more = record { turn = i; same = refl; enough = omega arith }
 
-    pub level-begins : (s room : ℕ) → s < length ts → Begins ts rec pre s (level ts rec DivMulMod s room) (level ts rec pre s room)
+    pub level-begins : (s room : ℕ) → s < length ts → Begins rules ts rec pre s (level rules ts rec DivMulMod s room) (level rules ts rec pre s room)
     unfolding level next-is is choose
     level-begins s room h =
-        begins-then ts rec pre s room (prefix-part ts rec s room) _ _ (prefix-part-runs ts v rec ih s room h)
+        begins-then rules ts rec pre s room (prefix-part rules ts rec s room) _ _ (prefix-part-runs ts v rules rec ih s room h)
         (λ t c m q. go t c m q (eqb (tok ts (step ts c)) SSemiColon) refl)
       where
         go : (t : Tree) (c m : ℕ) → Shut ts s room t c m → (b : Bool) → eqb (tok ts (step ts c)) SSemiColon ≡ b
-            → Begins ts rec pre s (choose b (λ _. read t (step ts c) m) (λ _. climb ts rec DivMulMod turns t c m))
-            (choose b (λ _. read t (step ts c) m) (λ _. climb ts rec pre turns t c m))
+            → Begins rules ts rec pre s (choose b (λ _. read t (step ts c) m) (λ _. climb rules ts rec DivMulMod turns t c m))
+            (choose b (λ _. read t (step ts c) m) (λ _. climb rules ts rec pre turns t c m))
         go t c m q true e = inl (refl, eqb-true _ _ e)
         go t c m q false e =
-            led ts rec pre s c (climb ts rec DivMulMod turns t c m) (climb ts rec pre turns t c m) (q .run .on) (climb-leads turns s room t c m (shut-behind ts DivMulMod q))
+            led rules ts rec pre s c (climb rules ts rec DivMulMod turns t c m) (climb rules ts rec pre turns t c m) (q .run .on) (climb-leads turns s room t c m (shut-behind ts DivMulMod q))

@@ -198,8 +198,8 @@ pool-rows ts words (read us at room) h r lo e = go (decLt (sizes us) r)
         trees-rows ts ws us 0 all h r (omega arith) (omega arith) e
 
 pub pool-rule : PoolKeepsRule
-pool-rule ts start room words = (
-  pool-rows ts words _ (post-map _ (Run ts start room) _ (one-expression ts start room) (expression-entry ts start room) (λ us c m h. h .kept)),
-  pool-rows ts words _ (post-map _ (Run ts start room) _ (one-statement ts start room) (statement-entry ts start room) (λ us c m h. h .kept)),
-  pool-rows ts words _ (post-map _ (Run ts 0 room) _ (whole-script ts room) (script-entry ts room) (λ us c m h. h .kept)),
+pool-rule rules ts start room words = (
+  pool-rows ts words _ (post-map _ (Run ts start room) _ (one-expression rules ts start room) (expression-entry rules ts start room) (λ us c m h. h .kept)),
+  pool-rows ts words _ (post-map _ (Run ts start room) _ (one-statement rules ts start room) (statement-entry rules ts start room) (λ us c m h. h .kept)),
+  pool-rows ts words _ (post-map _ (Run ts 0 room) _ (whole-script rules ts room) (script-entry rules ts room) (λ us c m h. h .kept)),
 )

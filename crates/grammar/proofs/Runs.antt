@@ -12,6 +12,7 @@ use lib.ListN.{length, List·getD-eq-default}
 use Rattle.grammar.specs.Words.{SSemiColon, SComma, SDot, EOF, tok, step, is, next-is, Zero, order, infix-of, goes-on}
 use Rattle.grammar.specs.Tree.{Tree, infixed, node, Trees, nil, _▸_, sizes, join, leaf, flagged, flag, Thread, Async, Grouped, is-call}
 use Rattle.grammar.specs.Parsed.{Parsed, Reader, read, _>>=_, build, match, turns}
+use Rattle.grammar.specs.Rules.{Rules}
 use Rattle.grammar.specs.Expressions.{Rec, get-identifier, dots, dot-expression, no-prefix, entries, list-expr, pair, hash-literal, array}
 use Rattle.grammar.specs.Expressions.{lambda, started, prefix, sub-expression, command, shell, prefix-part, infix-expression, suffix-expression}
 use Rattle.grammar.specs.Expressions.{call, index, operation, climb, level, expression}
@@ -239,7 +240,7 @@ module _ (ts : List ℕ) where
     unfolding dot-expression join
     dot-runs at room h = post-then _ _ _ _ _ (identifier-runs 2 refl at room h) (λ t c m q. let r = q .run in search parts depth 9)
 
-    module _ (rec : Rec) (ih : (pre at room : ℕ) → at < length ts → Post (Above ts pre at room) (rec pre at room)) where
+    module _ (rules : Rules) (rec : Rec) (ih : (pre at room : ℕ) → at < length ts → Post (Above ts pre at room) (rec pre at room)) where
       rec-runs : (pre at room : ℕ) → at < length ts → Post (λ t. Run ts at room (t ▸ nil)) (rec pre at room)
       rec-runs pre at room h = post-map _ _ _ (rec pre at room) (ih pre at room h) (λ t c m q. q .run)
 
@@ -247,7 +248,7 @@ module _ (ts : List ℕ) where
       rec-then A pre at room = hands A single at room _ (rec-runs pre at room)
 
       entries-runs : (entry : Reader Tree) → ((at room : ℕ) → at < length ts → Post (λ t. Run ts at room (t ▸ nil)) (entry at room)) → (i s n : ℕ) (list : Trees)
-          (at room : ℕ) → Run ts s n list at room → length ts ≤ i + at → Post (Run ts s n) (entries ts rec entry i list at room)
+          (at room : ℕ) → Run ts s n list at room → length ts ≤ i + at → Post (Run ts s n) (entries rules ts rec entry i list at room)
       unfolding entries
       entries-runs entry h zero s n list at room r f = absurd (omega (arith, r .within))
       entries-runs entry h (suc i) s n list at room r f = post-choose _ _ _ _ _
@@ -257,59 +258,59 @@ module _ (ts : List ℕ) where
           (λ t c m q. entries-runs entry h i s n (join list (t ▸ nil)) c m (both r on q) (omega (arith, q .on, behind ts v at SComma (r .within) refl e))))
           (λ e. r)
 
-      list-runs : (at room : ℕ) → at < length ts → Post (Run ts at room) (list-expr ts rec at room)
+      list-runs : (at room : ℕ) → at < length ts → Post (Run ts at room) (list-expr rules ts rec at room)
       unfolding list-expr join
       list-runs at room h =
           let r = start at room h in
           post-choose _ _ _ _ _ (λ e. r) (λ e. rec-then _ Zero _ _ _ _ at room at nil r (up _ _ (up₀ at))
           (λ t c m q. entries-runs (rec Zero) (rec-runs Zero) turns at room (t ▸ nil) c m q (enough ts v c)))
 
-      pub list-then : (A : Type 0) (at room : ℕ) → Hands A listed at room (list-expr ts rec at room)
+      pub list-then : (A : Type 0) (at room : ℕ) → Hands A listed at room (list-expr rules ts rec at room)
       list-then A at room = hands A listed at room _ (list-runs at room)
 
       ruleset walk = (parts, rec-then, list-then)
 
-      pair-runs : Reads (pair ts rec)
+      pair-runs : Reads (pair rules ts rec)
       unfolding pair join
       pair-runs at room h = let r = start at room h in search walk depth 9
 
-      pair-then : (A : Type 0) (at room : ℕ) → Hands A single at room (pair ts rec at room)
-      pair-then A at room = shut-hands A (pair ts rec) at room pair-runs
+      pair-then : (A : Type 0) (at room : ℕ) → Hands A single at room (pair rules ts rec at room)
+      pair-then A at room = shut-hands A (pair rules ts rec) at room pair-runs
 
       pairs-then : {A : Type 0} (R : Fact A) (f : Trees × ℕ × ℕ → Parsed A) (s n : ℕ) (list : Trees) (at room : ℕ) → Run ts s n list at room
-          → ((pairs : Trees) (c m : ℕ) → Run ts s n pairs c m → Post R (f (pairs, c, m))) → Post R (entries ts rec (pair ts rec) turns list at room >>= f)
+          → ((pairs : Trees) (c m : ℕ) → Run ts s n pairs c m → Post R (f (pairs, c, m))) → Post R (entries rules ts rec (pair rules ts rec) turns list at room >>= f)
       pairs-then R f s n list at room r k =
-          post-then _ _ R _ f (entries-runs (pair ts rec) (read-runs (pair ts rec) pair-runs) turns s n list at room r (enough ts v at)) k
+          post-then _ _ R _ f (entries-runs (pair rules ts rec) (read-runs (pair rules ts rec) pair-runs) turns s n list at room r (enough ts v at)) k
 
-      hash-runs : Reads (hash-literal ts rec)
+      hash-runs : Reads (hash-literal rules ts rec)
       unfolding hash-literal join
       hash-runs at room h = let r = start at room h in search (walk, pair-then, pairs-then) depth 12
 
-      array-runs : Reads (array ts rec)
+      array-runs : Reads (array rules ts rec)
       unfolding array join
       array-runs at room h = let r = start at room h in search walk depth 12
 
-      lambda-runs : Reads (lambda ts rec)
+      lambda-runs : Reads (lambda rules ts rec)
       unfolding lambda join
       lambda-runs at room h = let r = start at room h in search walk depth 12
 
-      prefix-runs : (mark : ℕ) → Reads (prefix ts rec mark)
+      prefix-runs : (mark : ℕ) → Reads (prefix rules ts rec mark)
       unfolding prefix join
       prefix-runs mark at room h = let r = start at room h in search walk depth 12
 
-      shell-runs : Reads (shell ts rec)
+      shell-runs : Reads (shell rules ts rec)
       unfolding shell command join
       shell-runs at room h = let r = start at room h in search walk depth 12
 
-      started-runs : (f : ℕ) → Reads (started ts rec f)
+      started-runs : (f : ℕ) → Reads (started rules ts rec f)
       unfolding started join
       started-runs f at room h = let r = start at room h in search (walk, flag-call) depth 9
 
-      sub-runs : Reads (sub-expression ts rec)
+      sub-runs : Reads (sub-expression rules ts rec)
       unfolding sub-expression join
       sub-runs at room h = let r = start at room h in search (walk, flag-group) depth 9
 
-      pub prefix-part-runs : Reads (prefix-part ts rec)
+      pub prefix-part-runs : Reads (prefix-part rules ts rec)
       unfolding prefix-part
       prefix-part-runs at room h = match-each _ _ _ (tok ts at) (no-prefix ts)
           (dot-runs ▹ leaf-runs 3 0 refl ▹ leaf-runs 4 0 refl ▹ leaf-runs 5 0 refl ▹ leaf-runs 6 0 refl ▹ leaf-runs 7 1 refl ▹ leaf-runs 7 0 refl ▹ lambda-runs
@@ -319,7 +320,7 @@ module _ (ts : List ℕ) where
 
       module _ (pre s n : ℕ) (t : Tree) (c m : ℕ) (b : Behind ts pre s n t c m) where
         infix-runs : 0 < infix-of (tok ts (step ts c)) → pre < order (tok ts (step ts c))
-            → Post (Behind ts pre (step ts c) n) (infix-expression ts rec t (step ts c) m)
+            → Post (Behind ts pre (step ts c) n) (infix-expression rules ts rec t (step ts c) m)
         unfolding infix-expression
         infix-runs i lt = post-then _ _ _ _ _ (ih (order (tok ts (step ts c))) (step ts (step ts c)) m (in-step ts _ (in-step ts c (b .run .within)))) (λ r c′ m′ a.
             post-build _ _ _ c′ m′ (λ z. refl) (λ m″ e. record {
@@ -333,7 +334,7 @@ module _ (ts : List ℕ) where
               left = ⊎-map (λ h small. h) (λ h. h) (a .stops);
             }))
 
-        pub operation-runs : goes-on pre (tok ts (step ts c)) ≡ true → Post (Behind ts pre (step ts c) n) (operation ts rec t (step ts c) m)
+        pub operation-runs : goes-on pre (tok ts (step ts c)) ≡ true → Post (Behind ts pre (step ts c) n) (operation rules ts rec t (step ts c) m)
         unfolding operation match suffix-expression call index join
         operation-runs g =
             let r : Run ts (step ts c) n (t ▸ nil) (step ts c) m = record {
@@ -349,7 +350,7 @@ module _ (ts : List ℕ) where
             let f = goes pre (tok ts (step ts c)) g e₁ e₂ e₃ e₄ in
             infix-runs (f .0) (f .1)
 
-      climb-runs : (pre i s n : ℕ) (t : Tree) (c m : ℕ) → Behind ts pre s n t c m → length ts ≤ i + c → Post (Above ts pre s n) (climb ts rec pre i t c m)
+      climb-runs : (pre i s n : ℕ) (t : Tree) (c m : ℕ) → Behind ts pre s n t c m → length ts ≤ i + c → Post (Above ts pre s n) (climb rules ts rec pre i t c m)
       unfolding climb
       climb-runs pre zero s n t c m b f = absurd (omega (arith, b .run .within))
       climb-runs pre (suc i) s n t c m b f = post-choose _ _ _ _ _
@@ -359,26 +360,26 @@ module _ (ts : List ℕ) where
           (record { run = from (omega (arith, b .run .on)) (q .run); root = q .root; left = q .left }) (omega (arith, q .run .on))))
           (λ g. record { run = b .run; root = b .root; stops = inl (halts pre (tok ts (step ts c)) g) })
 
-      level-runs : (pre at room : ℕ) → at < length ts → Post (Above ts pre at room) (level ts rec pre at room)
+      level-runs : (pre at room : ℕ) → at < length ts → Post (Above ts pre at room) (level rules ts rec pre at room)
       unfolding level next-is is
       level-runs pre at room h = post-then _ _ _ _ _ (prefix-part-runs at room h) (λ t c m q. post-choose _ _ _ _ _
           (λ e. record { run = later (q .run) (up _ _ (up₀ c)); root = q .shut (suc pre); stops = inr (eqb-true _ _ e) })
           (λ e. climb-runs pre turns at room t c m (shut-behind pre q) (enough ts v c)))
 
-    pub expression-runs : (d pre at room : ℕ) → at < length ts → Post (Above ts pre at room) (expression ts d pre at room)
+    pub expression-runs : (rules : Rules) (d pre at room : ℕ) → at < length ts → Post (Above ts pre at room) (expression rules ts d pre at room)
     unfolding expression
-    expression-runs zero pre at room h = refl
-    expression-runs (suc d) pre at room h = level-runs (expression ts d) (expression-runs d) pre at room h
+    expression-runs rules zero pre at room h = refl
+    expression-runs rules (suc d) pre at room h = level-runs rules (expression rules ts d) (expression-runs rules d) pre at room h
 
     -- Where an expression is accepted, it starts in the array, and something was allowed.
-    pub placed : (d pre s n : ℕ) (t : Tree) (c m : ℕ) → expression ts d pre s n ≡ read t c m → (1 ≤ d) × (s < length ts) × Above ts pre s n t c m
+    pub placed : (rules : Rules) (d pre s n : ℕ) (t : Tree) (c m : ℕ) → expression rules ts d pre s n ≡ read t c m → (1 ≤ d) × (s < length ts) × Above ts pre s n t c m
     unfolding expression tok
-    placed zero pre s n t c m h = let z : _≡_ {A = ℕ} 0 1 = cc in absurd (omega arith)
-    placed (suc d) pre s n t c m h = go (decLt s (length ts))
+    placed rules zero pre s n t c m h = let z : _≡_ {A = ℕ} 0 1 = cc in absurd (omega arith)
+    placed rules (suc d) pre s n t c m h = go (decLt s (length ts))
       where
         go : Dec (s < length ts) → (1 ≤ suc d) × (s < length ts) × Above ts pre s n t c m
-        go (yes lt) = (omega arith, lt, rw h at (expression-runs (suc d) pre s n lt))
+        go (yes lt) = (omega arith, lt, rw h at (expression-runs rules (suc d) pre s n lt))
         go (no ge) =
             let le : length ts ≤ s = omega arith in
-            let f : Post (λ t c m. ⊥) (read t c m) = rw h at (expression-eof ts s Numbered refl refl (suc d) pre n (List·getD-eq-default ts EOF le)) in
+            let f : Post (λ t c m. ⊥) (read t c m) = rw h at (expression-eof ts s Numbered refl refl rules (suc d) pre n (List·getD-eq-default ts EOF le)) in
             absurd f

@@ -10,6 +10,7 @@ use lib.ListN.{length, getD}
 use borrow.Author.Tests.{ltb-true, ltb-false, leb-true, eqb-true, eqb-false}
 use Rattle.grammar.specs.Words.{valid as good, Zero, EOF, tok, step, is, next-is, class, order, goes-on}
 use Rattle.grammar.specs.Parsed.{Parsed, refused, read, _>>=_, _>>_, Check, met, failed, need, choose, match, turns, BadArray, TooDeep, InvalidToken}
+use Rattle.grammar.specs.Rules.{Rules}
 use Rattle.grammar.specs.Expressions as e
 use Rattle.grammar.specs.Statements as s
 use Rattle.grammar.specs.Script.{longest, both, words-good, array-good}
@@ -50,13 +51,13 @@ no-end pre w g q = let f : true ≡ false = sym g ∙ zero-stops pre w (ap order
 
 -- Nothing is read at EOF: what is refused there is refused with one of two numbers.
 module _ (ts : List ℕ) (at : ℕ) where
-  module _ (B : ℕ → Type 0) (deep : B TooDeep) (token : B InvalidToken) where
-    pub expression-eof : (d pre room : ℕ) → tok ts at ≡ EOF → Ends B (λ t c m. ⊥) (e.expression ts d pre at room)
+  module _ (B : ℕ → Type 0) (deep : B TooDeep) (token : B InvalidToken) (rules : Rules) where
+    pub expression-eof : (d pre room : ℕ) → tok ts at ≡ EOF → Ends B (λ t c m. ⊥) (e.expression rules ts d pre at room)
     unfolding e.expression e.level e.prefix-part match choose e.no-prefix class _>>=_
     expression-eof zero pre room q = deep
     expression-eof (suc d) pre room q = rw q token
 
-    pub statement-eof : (d room : ℕ) → tok ts at ≡ EOF → Ends B (λ us c m. ⊥) (s.statement ts d at room)
+    pub statement-eof : (d room : ℕ) → tok ts at ≡ EOF → Ends B (λ us c m. ⊥) (s.statement rules ts d at room)
     unfolding s.statement s.level s.kept match choose is s.expression-statement
     statement-eof zero room q = deep
     statement-eof (suc d) room q = rw q (post-then _ _ _ _ _ (post-then _ _ _ _ _ (expression-eof d Zero room q) (λ t c m z. absurd z)) (λ t c m z. absurd z))

@@ -1,7 +1,7 @@
 -- What is claimed of the definition, each claim as a named type.
 use Prim.Native.Nat.{ℕ, suc, _+_, _-_, _*_, _%_, _≤_, _<_, min, max}
 use mathlib.Core.Path.{_≡_}
-use mathlib.Core.Bool.{false, cond}
+use mathlib.Core.Bool.{true, false, cond}
 use mathlib.Core.List.{List, [], _∷_, _++_}
 use mathlib.Core.Logic.{_⊎_}
 use lib.Dec.{eqb, ltb}
@@ -9,7 +9,8 @@ use lib.ListN.{length, getD, replicate}
 use Rattle.grammar.specs.Words.{Integer, Str, Float, Char, Identifier, SSemiColon, SDot, KNone, KTrue, KFalse, tok, step, Zero, order, infix-of}
 use Rattle.grammar.specs.Words.{goes-on}
 use Rattle.grammar.specs.Tree.{Tree, infixed, node, Trees, nil, _▸_, size, sizes, lay, identifier, int, float, char, string, bool, none, width}
-use Rattle.grammar.specs.Parsed.{Parsed, refused, read, met, Unreached, NoRow}
+use Rattle.grammar.specs.Parsed.{Parsed, refused, read, met, Unreached, NoRow, WrongSign}
+use Rattle.grammar.specs.Rules.{Rules, original}
 use Rattle.grammar.specs.Expressions.{expression}
 use Rattle.grammar.specs.Statements.{statement}
 use Rattle.grammar.specs.Script.{nesting, array-good, one-expression, one-statement, whole-script, most-rows, rows, answer, pool, word-of}
@@ -54,10 +55,10 @@ KeepsBut ts (node k m p a b c d) = eqb k 12 ≡ false
 -- What holds of every accepted answer of the three entries, from any start place and with any number of rows; a whole script starts at 0.
 abbrev pub OfEntries : ((ts : List ℕ) (start room : ℕ) (us : Trees) (at left : ℕ) → Type 0) → Type 0
 OfEntries P =
-    (ts : List ℕ) (start room : ℕ) (us : Trees) (at left : ℕ)
-    → (one-expression ts start room ≡ read us at left → P ts start room us at left)
-    × (one-statement ts start room ≡ read us at left → P ts start room us at left)
-    × (whole-script ts room ≡ read us at left → P ts 0 room us at left)
+    (rules : Rules) (ts : List ℕ) (start room : ℕ) (us : Trees) (at left : ℕ)
+    → (one-expression rules ts start room ≡ read us at left → P ts start room us at left)
+    × (one-statement rules ts start room ≡ read us at left → P ts start room us at left)
+    × (whole-script rules ts room ≡ read us at left → P ts 0 room us at left)
 
 -- Every infix row of an accepted tree keeps the rule.
 abbrev pub KeepsRule : Type 0
@@ -78,10 +79,10 @@ StaysInside = OfEntries (λ ts start room us at left. at < length ts)
 -- No loop runs out of turns: no entry answers with the refusal that this would give.
 abbrev pub NeverUnreached : Type 0
 NeverUnreached =
-    (ts : List ℕ) (start room place : ℕ)
-    → (¬ (one-expression ts start room ≡ refused Unreached place))
-    × (¬ (one-statement ts start room ≡ refused Unreached place))
-    × (¬ (whole-script ts room ≡ refused Unreached place))
+    (rules : Rules) (ts : List ℕ) (start room place : ℕ)
+    → (¬ (one-expression rules ts start room ≡ refused Unreached place))
+    × (¬ (one-statement rules ts start room ≡ refused Unreached place))
+    × (¬ (whole-script rules ts room ≡ refused Unreached place))
 
 -- How many tokens there are from a place on, EOF not counted.
 abbrev pub tokens-from : List ℕ → ℕ → ℕ
@@ -103,18 +104,18 @@ script-rows n = 2 * n + 1
 -- With so many rows no entry refuses for want of a row, whatever the array.
 abbrev pub RowsEnough : Type 0
 RowsEnough =
-    (ts : List ℕ) (start room place : ℕ)
-    → (expression-rows (tokens-from ts start) ≤ room → ¬ (one-expression ts start room ≡ refused NoRow place))
-    × (statement-rows (tokens-from ts start) ≤ room → ¬ (one-statement ts start room ≡ refused NoRow place))
-    × (script-rows (tokens-from ts 0) ≤ room → ¬ (whole-script ts room ≡ refused NoRow place))
+    (rules : Rules) (ts : List ℕ) (start room place : ℕ)
+    → (expression-rows (tokens-from ts start) ≤ room → ¬ (one-expression rules ts start room ≡ refused NoRow place))
+    × (statement-rows (tokens-from ts start) ≤ room → ¬ (one-statement rules ts start room ≡ refused NoRow place))
+    × (script-rows (tokens-from ts 0) ≤ room → ¬ (whole-script rules ts room ≡ refused NoRow place))
 
 -- So a pool with the most rows is never too small.
 abbrev pub LargestEnough : Type 0
 LargestEnough =
-    (ts : List ℕ) (start room place : ℕ) → most-rows ≤ room
-    → (¬ (one-expression ts start room ≡ refused NoRow place))
-    × (¬ (one-statement ts start room ≡ refused NoRow place))
-    × (¬ (whole-script ts room ≡ refused NoRow place))
+    (rules : Rules) (ts : List ℕ) (start room place : ℕ) → most-rows ≤ room
+    → (¬ (one-expression rules ts start room ≡ refused NoRow place))
+    × (¬ (one-statement rules ts start room ≡ refused NoRow place))
+    × (¬ (whole-script rules ts room ≡ refused NoRow place))
 
 -- An answer whose first word is 0 is an acceptance.
 abbrev pub Accepts : Parsed Trees → Type 0
@@ -130,10 +131,10 @@ pub record Accepted (p : Parsed Trees) : Type 0 where
 -- No refusal of an entry has the number 0.
 abbrev pub ZeroAccepts : Type 0
 ZeroAccepts =
-    (ts : List ℕ) (start room : ℕ)
-    → (Accepts (one-expression ts start room) → Accepted (one-expression ts start room))
-    × (Accepts (one-statement ts start room) → Accepted (one-statement ts start room))
-    × (Accepts (whole-script ts room) → Accepted (whole-script ts room))
+    (rules : Rules) (ts : List ℕ) (start room : ℕ)
+    → (Accepts (one-expression rules ts start room) → Accepted (one-expression rules ts start room))
+    × (Accepts (one-statement rules ts start room) → Accepted (one-statement rules ts start room))
+    × (Accepts (whole-script rules ts room) → Accepted (whole-script rules ts room))
 
 -- An infix row of a pool that is in no brackets has the order `n` or a higher one.
 abbrev pub RowBinds : (ts pool : List ℕ) (n reference : ℕ) → Type 0
@@ -152,25 +153,25 @@ RowsRuled ts pool = (reference : ℕ) → 1 ≤ reference → word-of pool refer
 -- Whatever an entry answers, the words of the pool keep the rule.
 abbrev pub PoolKeepsRule : Type 0
 PoolKeepsRule =
-    (ts : List ℕ) (start room words : ℕ)
-    → RowsRuled ts (pool words (one-expression ts start room))
-    × RowsRuled ts (pool words (one-statement ts start room))
-    × RowsRuled ts (pool words (whole-script ts room))
+    (rules : Rules) (ts : List ℕ) (start room words : ℕ)
+    → RowsRuled ts (pool words (one-expression rules ts start room))
+    × RowsRuled ts (pool words (one-statement rules ts start room))
+    × RowsRuled ts (pool words (whole-script rules ts room))
 
 -- More nesting and more rows never change what the reader of expressions, or that of statements, accepts.
 abbrev pub MoreNesting : Type 0
 MoreNesting =
-    (ts : List ℕ) (d d′ more at room c left : ℕ) → d ≤ d′
-    → ((pre : ℕ) (t : Tree) → expression ts d pre at room ≡ read t c left → expression ts d′ pre at (room + more) ≡ read t c (left + more))
-    × ((us : Trees) → statement ts d at room ≡ read us c left → statement ts d′ at (room + more) ≡ read us c (left + more))
+    (rules : Rules) (ts : List ℕ) (d d′ more at room c left : ℕ) → d ≤ d′
+    → ((pre : ℕ) (t : Tree) → expression rules ts d pre at room ≡ read t c left → expression rules ts d′ pre at (room + more) ≡ read t c (left + more))
+    × ((us : Trees) → statement rules ts d at room ≡ read us c left → statement rules ts d′ at (room + more) ≡ read us c (left + more))
 
 -- More rows never change what an entry accepts.
 abbrev pub MoreRows : Type 0
 MoreRows =
-    (ts : List ℕ) (start room more : ℕ) (us : Trees) (at left : ℕ)
-    → (one-expression ts start room ≡ read us at left → one-expression ts start (room + more) ≡ read us at (left + more))
-    × (one-statement ts start room ≡ read us at left → one-statement ts start (room + more) ≡ read us at (left + more))
-    × (whole-script ts room ≡ read us at left → whole-script ts (room + more) ≡ read us at (left + more))
+    (rules : Rules) (ts : List ℕ) (start room more : ℕ) (us : Trees) (at left : ℕ)
+    → (one-expression rules ts start room ≡ read us at left → one-expression rules ts start (room + more) ≡ read us at (left + more))
+    × (one-statement rules ts start room ≡ read us at left → one-statement rules ts start (room + more) ≡ read us at (left + more))
+    × (whole-script rules ts room ≡ read us at left → whole-script rules ts (room + more) ≡ read us at (left + more))
 
 -- In a larger pool an entry that accepts gives the same answer and the same words, and zeros behind them.
 abbrev pub InLargerPool : ((room : ℕ) → Parsed Trees) → Type 0
@@ -182,8 +183,8 @@ InLargerPool entry =
 -- The same of all three entries.
 abbrev pub MoreWords : Type 0
 MoreWords =
-    (ts : List ℕ) (start : ℕ)
-    → InLargerPool (λ room. one-expression ts start room) × InLargerPool (λ room. one-statement ts start room) × InLargerPool (λ room. whole-script ts room)
+    (rules : Rules) (ts : List ℕ) (start : ℕ)
+    → InLargerPool (λ room. one-expression rules ts start room) × InLargerPool (λ room. one-statement rules ts start room) × InLargerPool (λ room. whole-script rules ts room)
 
 -- The parts of a chain: an operand with its tree, or an infix operator with its mark and place.
 pub data Part : Type 0 where
@@ -206,14 +207,14 @@ Keeps ts m p l r = Binds ts (order (tok ts p)) l × Binds ts (suc (order (tok ts
 
 -- A chain's tree, read from `start` up to `at`: what was read, left to right, is the chain; the rule is kept, and by no other tree of that reading;
 -- so many rows are used; the entry accepts with so many rows or more, and no more than `deep` expressions are open at once.
-pub record Grouping (ts : List ℕ) (deep start at used : ℕ) (parts : List Part) : Type 0 where
+pub record Grouping (rules : Rules) (ts : List ℕ) (deep start at used : ℕ) (parts : List Part) : Type 0 where
   pub tree : Tree
   pub reads : reading tree ≡ parts
   pub kept : Joins (Keeps ts) tree
   pub only : (t : Tree) → reading t ≡ parts → Joins (Keeps ts) t → t ≡ tree
   pub rows-used : size tree ≡ used
-  pub accepted : (room left : ℕ) → used + left ≡ room → one-expression ts start room ≡ read (tree ▸ nil) at left
-  pub shallow : (d room left : ℕ) → deep ≤ d → used + left ≡ room → expression ts d Zero start room ≡ read tree at left
+  pub accepted : (room left : ℕ) → used + left ≡ room → one-expression rules ts start room ≡ read (tree ▸ nil) at left
+  pub shallow : (d room left : ℕ) → deep ≤ d → used + left ≡ room → expression rules ts d Zero start room ≡ read tree at left
 
 -- The words of values, each with the row that it is read as.
 pub data Value : ℕ → (ℕ → Tree) → Type 0 where
@@ -244,8 +245,8 @@ pub data Ended (ts : List ℕ) (last : ℕ) : (at : ℕ) → Type 0 where
 -- than ten expressions open at once.
 abbrev pub GroupsChains : Type 0
 GroupsChains =
-    (ts : List ℕ) (s n at : ℕ) (parts : List Part) → array-good ts ≡ met → Chain ts s n parts → Ended ts (s + 2 * n - 2) at
-    → Grouping ts 10 s at (2 * n - 1) parts
+    (rules : Rules) (ts : List ℕ) (s n at : ℕ) (parts : List Part) → array-good ts ≡ met → Chain ts s n parts → Ended ts (s + 2 * n - 2) at
+    → Grouping rules ts 10 s at (2 * n - 1) parts
 
 -- The highest order of an infix operator.
 abbrev pub DivMulMod : ℕ
@@ -253,10 +254,10 @@ DivMulMod = 9
 
 -- Operands from a place on with infix operators between them, where the last ends at `e`: each is what the reader itself reads there above
 -- all infix operators, with `d` more expressions open and just the rows that it takes. None but the last ends on a semicolon.
-pub data Operands (ts : List ℕ) (d : ℕ) : (s e : ℕ) → List Part → Type 0 where
-  final : {s e : ℕ} {t : Tree} → expression ts d DivMulMod s (size t) ≡ read t e 0 → Operands ts d s e (operand t ∷ [])
-  further : {s c p e mark : ℕ} {t : Tree} {parts : List Part} → expression ts d DivMulMod s (size t) ≡ read t c 0 → ¬ (tok ts c ≡ SSemiColon)
-      → step ts c ≡ p → infix-of (tok ts p) ≡ suc mark → Operands ts d (step ts p) e parts → Operands ts d s e (operand t ∷ sign mark p ∷ parts)
+pub data Operands (rules : Rules) (ts : List ℕ) (d : ℕ) : (s e : ℕ) → List Part → Type 0 where
+  final : {s e : ℕ} {t : Tree} → expression rules ts d DivMulMod s (size t) ≡ read t e 0 → Operands rules ts d s e (operand t ∷ [])
+  further : {s c p e mark : ℕ} {t : Tree} {parts : List Part} → expression rules ts d DivMulMod s (size t) ≡ read t c 0 → ¬ (tok ts c ≡ SSemiColon)
+      → step ts c ≡ p → infix-of (tok ts p) ≡ suc mark → Operands rules ts d (step ts p) e parts → Operands rules ts d s e (operand t ∷ sign mark p ∷ parts)
 
 -- The rows that the parts of a chain take.
 unfoldable pub rows-of : List Part → ℕ
@@ -267,12 +268,33 @@ rows-of (sign m p ∷ ps) = suc (rows-of ps)
 -- The same for chains of any operands, where the loop stops behind the last one.
 abbrev pub GroupsOperands : Type 0
 GroupsOperands =
-    (ts : List ℕ) (d s e : ℕ) (parts : List Part) → array-good ts ≡ met → Operands ts d s e parts → goes-on Zero (tok ts (step ts e)) ≡ false
-    → 9 + d ≤ nesting → Grouping ts (9 + d) s e (rows-of parts) parts
+    (rules : Rules) (ts : List ℕ) (d s e : ℕ) (parts : List Part) → array-good ts ≡ met → Operands rules ts d s e parts → goes-on Zero (tok ts (step ts e)) ≡ false
+    → 9 + d ≤ nesting → Grouping rules ts (9 + d) s e (rows-of parts) parts
 
 -- The answer and the pool's words where such a chain is read: 0, the root's reference and the rows used, the current place; the tree's rows and zeros.
 abbrev pub AnswersChains : Type 0
 AnswersChains =
-    (ts : List ℕ) (deep s at used : ℕ) (parts : List Part) (g : Grouping ts deep s at used parts) (words : ℕ) → used ≤ rows words
-    → (answer (one-expression ts s (rows words)) ≡ 0 ∷ used ∷ used ∷ at ∷ [])
-    × (pool words (one-expression ts s (rows words)) ≡ lay (g .tree) 0 0 ++ replicate (words - width * used) 0)
+    (rules : Rules) (ts : List ℕ) (deep s at used : ℕ) (parts : List Part) (g : Grouping rules ts deep s at used parts) (words : ℕ) → used ≤ rows words
+    → (answer (one-expression rules ts s (rows words)) ≡ 0 ∷ used ∷ used ∷ at ∷ [])
+    × (pool words (one-expression rules ts s (rows words)) ≡ lay (g .tree) 0 0 ++ replicate (words - width * used) 0)
+
+-- A refusal by this number.
+abbrev pub Gives : {A : Type 0} → ℕ → Parsed A → Type 0
+Gives n (refused m p) = m ≡ n
+Gives n (read a at room) = ⊥
+
+-- A refusal by this number, or else the same.
+abbrev pub Unless : {A : Type 0} → ℕ → Parsed A → Parsed A → Type 0
+Unless n x y = Gives n x ⊎ (x ≡ y)
+
+-- The entries by the first rules refuse by this number, or else answer as by the second.
+abbrev pub EntriesUnless : ℕ → (P Q : Rules) → Type 0
+EntriesUnless n P Q =
+    (ts : List ℕ) (start room : ℕ)
+    → Unless n (one-expression P ts start room) (one-expression Q ts start room)
+    × Unless n (one-statement P ts start room) (one-statement Q ts start room)
+    × Unless n (whole-script P ts room) (whole-script Q ts room)
+
+-- Strict rules refuse by 30, or change nothing.
+abbrev pub StrictOrSame : Type 0
+StrictOrSame = EntriesUnless WrongSign (record { strict = true }) original

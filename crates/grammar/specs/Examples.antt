@@ -7,17 +7,18 @@ use Rattle.grammar.specs.Words.{Operator, EOF, Identifier, SLParen, SRpa
 use Rattle.grammar.specs.Words.{KElse, KWhile, KConst, KVar, KTry, KCatch, KFinally, KForEach, KAssert}
 use Rattle.grammar.specs.Tree.{Trees, row, width}
 use Rattle.grammar.specs.Parsed.{Parsed}
+use Rattle.grammar.specs.Rules.{original}
 use Rattle.grammar.specs.Script.{one-expression, one-statement, whole-script, answer, pool}
 
 -- The three entries, from place 0.
 pub data Entry : Type 0 where
   X S W : Entry
 
--- What an entry reads.
+-- What an entry reads by the original's rules.
 unfoldable pub entered : Entry → List ℕ → (room : ℕ) → Parsed Trees
-entered X ts room = one-expression ts 0 room
-entered S ts room = one-statement ts 0 room
-entered W ts room = whole-script ts room
+entered X ts room = one-expression original ts 0 room
+entered S ts room = one-statement original ts 0 room
+entered W ts room = whole-script original ts room
 
 -- An example: an entry, tokens, a number of rows, the answer, and the words of the rows that are used.
 pub record Example : Type 0 where

@@ -10,7 +10,8 @@ use Rattle.grammar.specs.Tree.{Tree, infixed, Trees, nil, _▸_, join, f
 use Rattle.grammar.specs.Tree as tree
 use Rattle.grammar.specs.Parsed.{refused, read, Reader, _>>=_, _>>_, need, build, choose, _⇒_, match, turns, Unreached, TooDeep}
 use Rattle.grammar.specs.Parsed.{InvalidSyntax, InvalidToken, InvalidSymbol, NotImplemented, InvalidIdentifier, ExpectedColon, NoParameters}
-use Rattle.grammar.specs.Parsed.{ExpectedArrow, HashNotTerminated, ArrayNotTerminated, NotCallable}
+use Rattle.grammar.specs.Parsed.{ExpectedArrow, HashNotTerminated, ArrayNotTerminated, NotCallable, WrongSign}
+use Rattle.grammar.specs.Rules.{Rules, fits}
 
 -- The reader of an expression above an order.
 abbrev pub Rec : Type 0
@@ -49,6 +50,7 @@ module _ (ts : List ℕ) where
       choose (eqb (class (tok ts at)) Operator) (λ _. refused InvalidSymbol at) λ _.
       refused InvalidToken at
 
+module _ (rules : Rules) (ts : List ℕ) where
   module _ (rec : Rec) where
     -- The entries of a list behind the first, each behind a comma: the loops of parse_list_expr and parse_hash_literal.
     unfoldable pub entries : Reader Tree → ℕ → Trees → Reader Trees
@@ -134,7 +136,7 @@ module _ (ts : List ℕ) where
     -- The match at the head of parse_expression.
     unfoldable pub prefix-part : Reader Tree
     prefix-part start room = match (tok ts start)
-        (Identifier ⇒ dot-expression
+        (Identifier ⇒ dot-expression ts
         ∷ Integer ⇒ (λ at. build (tree.int at) at)
         ∷ Float ⇒ (λ at. build (tree.float at) at)
         ∷ Char ⇒ (λ at. build (tree.char at) at)
@@ -153,7 +155,7 @@ module _ (ts : List ℕ) where
         ∷ SNeg ⇒ prefix 3
         ∷ SLParen ⇒ sub-expression
         ∷ SDollar ⇒ shell
-        ∷ []) no-prefix start room
+        ∷ []) (no-prefix ts) start room
 
     -- parse_infix_expression, behind `left`.
     unfoldable pub infix-expression : Tree → Reader Tree
@@ -165,10 +167,11 @@ module _ (ts : List ℕ) where
     unfoldable pub suffix-expression : Tree → ℕ → Reader Tree
     suffix-expression left mark start room = build (tree.suffix mark start left) start room
 
-    -- parse_call_expression, behind `caller`: with arguments any token closes it.
+    -- parse_call_expression, behind `caller`: with arguments any token closes it, unless the rules ask for the right one.
     unfoldable pub call : Tree → Reader Tree
     call caller start room = choose (next-is ts start SRparen) (λ _. build (tree.call start caller nil) (step ts start) room) λ _. do
       (arguments, at, room) ← list-expr start room
+      need (fits rules ts at SRparen) WrongSign at
       build (tree.call start caller arguments) (step ts at) room
 
     -- parse_index_expression, behind `left`.

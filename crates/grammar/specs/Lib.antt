@@ -2,6 +2,7 @@
 pub mod Words
 pub mod Tree
 pub mod Parsed
+pub mod Rules
 pub mod Expressions
 pub mod Statements
 pub mod Script

@@ -108,6 +108,9 @@ BreakWithoutSemicolon = 28
 abbrev pub ContinueWithoutSemicolon : ℕ
 ContinueWithoutSemicolon = 29
 
+abbrev pub WrongSign : ℕ
+WrongSign = 30
+
 -- A row is due: a tree, where a row is left for its root.
 unfoldable pub build : Tree → Reader Tree
 build t at zero = refused NoRow at

@@ -7,6 +7,7 @@ use lib.Dec.{eqb, ltb, leb}
 use Rattle.grammar.specs.Words.{EOF, valid, Zero}
 use Rattle.grammar.specs.Tree.{Trees, nil, _▸_, sizes, lays, block, width}
 use Rattle.grammar.specs.Parsed.{Parsed, refused, read, _>>=_, Check, met, failed, need, _>>_, build, turns, BadArray, BadStart}
+use Rattle.grammar.specs.Rules.{Rules}
 use Rattle.grammar.specs.Expressions.{expression}
 use Rattle.grammar.specs.Statements.{statement, statements}
 
@@ -34,25 +35,25 @@ unfoldable pub array-good : List ℕ → Check
 array-good ts = both (need (ltb 0 (length ts) && leb (length ts) longest) BadArray 0) (words-good 0 ts)
 
 -- One expression from a start place.
-unfoldable pub one-expression : List ℕ → (start room : ℕ) → Parsed Trees
-one-expression ts start room = do
+unfoldable pub one-expression : Rules → List ℕ → (start room : ℕ) → Parsed Trees
+one-expression rules ts start room = do
   array-good ts
   need (ltb start (length ts)) BadStart 0
-  (t, at, room) ← expression ts nesting Zero start room
+  (t, at, room) ← expression rules ts nesting Zero start room
   read (t ▸ nil) at room
 
 -- One statement from a start place.
-unfoldable pub one-statement : List ℕ → (start room : ℕ) → Parsed Trees
-one-statement ts start room = do
+unfoldable pub one-statement : Rules → List ℕ → (start room : ℕ) → Parsed Trees
+one-statement rules ts start room = do
   array-good ts
   need (ltb start (length ts)) BadStart 0
-  statement ts nesting start room
+  statement rules ts nesting start room
 
 -- A whole script: statements up to EOF, in a block at place 0.
-unfoldable pub whole-script : List ℕ → (room : ℕ) → Parsed Trees
-whole-script ts room = do
+unfoldable pub whole-script : Rules → List ℕ → (room : ℕ) → Parsed Trees
+whole-script rules ts room = do
   array-good ts
-  (list, at, room) ← statements ts (expression ts nesting) (statement ts nesting) EOF turns nil 0 room
+  (list, at, room) ← statements rules ts (expression rules ts nesting) (statement rules ts nesting) EOF turns nil 0 room
   (t, at, room) ← build (block 0 list) at room
   read (t ▸ nil) at room
 

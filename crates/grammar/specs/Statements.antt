@@ -10,9 +10,11 @@ use Rattle.grammar.specs.Tree as tree
 use Rattle.grammar.specs.Parsed.{refused, read, Reader, _>>=_, _>>_, need, build, choose, _⇒_, match, turns, Unreached, TooDeep}
 use Rattle.grammar.specs.Parsed.{InvalidSyntax, InvalidToken, InvalidIdentifier, AssertWithoutAction, AssertWithoutComma, FuncWithoutName}
 use Rattle.grammar.specs.Parsed.{IfWithoutBody, ConstWithoutValue, ExpectedEq, TryWithoutCatch, BreakWithoutSemicolon, ContinueWithoutSemicolon}
+use Rattle.grammar.specs.Parsed.{WrongSign}
+use Rattle.grammar.specs.Rules.{Rules, fits}
 use Rattle.grammar.specs.Expressions.{Rec, list-expr, expression}
 
-module _ (ts : List ℕ) (expr : Rec) (stmt : Reader Trees) where
+module _ (rules : Rules) (ts : List ℕ) (expr : Rec) (stmt : Reader Trees) where
   -- Statements up to the word `close`: the loop of parse_block_statement, and of a whole script.
   unfoldable pub statements : (close : ℕ) → ℕ → Trees → Reader Trees
   statements close zero list at room = refused Unreached at
@@ -47,7 +49,7 @@ module _ (ts : List ℕ) (expr : Rec) (stmt : Reader Trees) where
   function name room = do
     need (is ts name Identifier) FuncWithoutName name
     need (next-is ts name SLParen) InvalidSyntax name
-    (parameters, at, room) ← list-expr ts expr (step ts name) room
+    (parameters, at, room) ← list-expr rules ts expr (step ts name) room
     need (next-is ts at SRparen) InvalidSyntax at
     need (next-is ts (step ts at) SLBrace) InvalidSyntax (step ts at)
     (body, at, room) ← block (step ts at) room
@@ -99,6 +101,7 @@ module _ (ts : List ℕ) (expr : Rec) (stmt : Reader Trees) where
     need (next-is ts start SLParen) InvalidSyntax start
     (target, at, room) ← expr Zero (step ts (step ts start)) room
     need (next-is ts at SRparen) InvalidSyntax at
+    need (fits rules ts (step ts at) SLBrace) WrongSign (step ts at)
     (body, at, room) ← block (step ts at) room
     build (tree.while start target body) at room
 
@@ -117,6 +120,7 @@ module _ (ts : List ℕ) (expr : Rec) (stmt : Reader Trees) where
     need (next-is ts at SComma) InvalidSyntax at
     (element, at, room) ← expr Zero (step ts (step ts at)) room
     need (next-is ts at SImpl) InvalidSyntax at
+    need (fits rules ts (step ts at) SLBrace) WrongSign (step ts at)
     (body, at, room) ← block (step ts at) room
     build (tree.foreach start iter i element body) at room
 
@@ -141,6 +145,7 @@ module _ (ts : List ℕ) (expr : Rec) (stmt : Reader Trees) where
   unfoldable pub finally : Reader Trees
   finally at room = choose (next-is ts at KFinally)
       (λ _. do
+        need (fits rules ts (step ts at) SLBrace) WrongSign (step ts at)
         (final, at, room) ← block (step ts at) room
         read (final ▸ nil) at room)
       (λ _. read nil at room)
@@ -200,6 +205,6 @@ module _ (ts : List ℕ) (expr : Rec) (stmt : Reader Trees) where
     read (t ▸ nil) at room
 
 -- parse_statement, where `d` more expressions and statements may be open.
-unfoldable pub statement : List ℕ → (d : ℕ) → Reader Trees
-statement ts zero at room = refused TooDeep at
-statement ts (suc d) at room = level ts (expression ts d) (statement ts d) at room
+unfoldable pub statement : Rules → List ℕ → (d : ℕ) → Reader Trees
+statement rules ts zero at room = refused TooDeep at
+statement rules ts (suc d) at room = level rules ts (expression rules ts d) (statement rules ts d) at room
