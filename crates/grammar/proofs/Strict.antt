@@ -15,7 +15,7 @@ use Rattle.grammar.proofs.Walk.{Relation, Beside, expression-alike, sta
 use Rattle.grammar.proofs.Agree.{Agree, let-off, both-refuse, both-read, agreed}
 use Rattle.grammar.proofs.Entries.{all-entries}
 
-abbrev strict : Rules
+abbrev pub strict : Rules
 strict = record { strict = true }
 
 -- Refusal 30 is let off.
