@@ -35,10 +35,10 @@ or-same x y one (both-refuse p) = inr (rw p)
 or-same x y one (both-read {a} {b} r p) = inr (rw (p, one a b r))
 
 -- A sign that only the first rules ask for.
-asked : {A : Type 0} {R : A → A → Type 0} (b : Bool) (at : ℕ) (x y : Parsed A) → OrSame A R x y → OrSame A R (need b WrongSign at >> x) y
+asked : {A : Type 0} {R : A → A → Type 0} (b : Bool) (p : ℕ) (x y : Parsed A) → OrSame A R x y → OrSame A R (need b WrongSign p >> x) y
 unfolding need _>>_
-asked true at x y h = h
-asked false at x y h = let-off refl
+asked true p x y h = h
+asked false p x y h = let-off refl
 
 module _ (ts : List ℕ) where
   strictly : Beside _≡_ same OrSame strict original ts ts
@@ -47,7 +47,7 @@ module _ (ts : List ℕ) where
     kept = agreed Thirty _≡_ same (λ n. refl) (inr refl);
     token = λ a b. ap (tok ts);
     on = λ a b. ap (step ts);
-    fitting = λ R at bt w x y p h. asked (next-is ts at w) at x y h;
+    fitting = λ R at bt w p q x y h i k. asked (next-is ts at w) p x y k;
   }
 
   -- The same of the readers, with any nesting.

@@ -31,8 +31,8 @@ pub record Beside (At : ℕ → ℕ → Type 0) (up : ℕ → ℕ) (Rel : Relati
   pub kept : Kept At up Rel
   pub token : (a b : ℕ) → At a b → tok ts a ≡ tok us b
   pub on : (a b : ℕ) → At a b → At (step ts a) (step us b)
-  pub fitting : {A : Type 0} (R : A → A → Type 0) (at bt w : ℕ) (x y : Parsed A) → At at bt → Rel A R x y
-      → Rel A R (need (fits P ts at w) WrongSign at >> x) (need (fits Q us bt w) WrongSign bt >> y)
+  pub fitting : {A : Type 0} (R : A → A → Type 0) (at bt w p q : ℕ) (x y : Parsed A) → At at bt → At p q → Rel A R x y
+      → Rel A R (need (fits P ts at w) WrongSign p >> x) (need (fits Q us bt w) WrongSign q >> y)
 
 -- A test that comes out alike.
 same-test : {At : ℕ → ℕ → Type 0} {up : ℕ → ℕ} {Rel : Relation} → Kept At up Rel → {A : Type 0} (R : A → A → Type 0) (a b : Bool) (n p q : ℕ) (x y : Parsed A)
@@ -49,7 +49,7 @@ module _ {At : ℕ → ℕ → Type 0} {up : ℕ → ℕ} {Rel : Relation} (rule
   same-sign a b w h = rw (token (step ts a) (step us b) (on a b h))
 
   pub by-one-rule : Beside At up Rel rules rules ts us
-  by-one-rule = record { kept = kept; token = token; on = on; fitting = λ R at bt w x y h k. same-test kept R _ _ WrongSign at bt x y (same-sign at bt w h) h k }
+  by-one-rule = record { kept = kept; token = token; on = on; fitting = λ R at bt w p q x y h. same-test kept R _ _ WrongSign p q x y (same-sign at bt w h) }
 
 not-like : {a b : Bool} → a ≡ b → not a ≡ not b
 not-like h = ap not h
@@ -80,8 +80,8 @@ module _ {At : ℕ → ℕ → Type 0} {up : ℕ → ℕ} {Rel : Relation} {P Q 
     on-need : (a b : Bool) (n p q : ℕ) (x y : Parsed B) → a ≡ b → At p q → Rel B S x y → Rel B S (need a n p >> x) (need b n q >> y)
     on-need a b n p q x y e h k = same-test (beside .kept) S a b n p q x y e h k
 
-    on-fits : (at bt w : ℕ) (x y : Parsed B) → At at bt → Rel B S x y → Rel B S (need (fits P ts at w) WrongSign at >> x) (need (fits Q us bt w) WrongSign bt >> y)
-    on-fits at bt w x y h k = beside .fitting S at bt w x y h k
+    on-fits : (at bt w p q : ℕ) (x y : Parsed B) → At at bt → At p q → Rel B S x y → Rel B S (need (fits P ts at w) WrongSign p >> x) (need (fits Q us bt w) WrongSign q >> y)
+    on-fits at bt w p q x y h i k = beside .fitting S at bt w p q x y h i k
 
     on-choose : (a b : Bool) (x y x′ y′ : Unit {0} → Parsed B) → a ≡ b → Rel B S (x tt) (x′ tt) → Rel B S (y tt) (y′ tt) → Rel B S (choose a x y) (choose b x′ y′)
     unfolding choose
