@@ -1,7 +1,7 @@
 -- Trees that are the same but for their places, which correspond.
 use Prim.Native.Nat.{ℕ}
 use mathlib.Core.Path.{_≡_, refl}
-use Rattle.grammar.specs.Tree.{Tree, infixed, node, Trees, nil, _▸_, join, flagged, flag, is-call}
+use Rattle.grammar.specs.Tree.{Tree, infixed, node, Trees, nil, _▸_, join, flagged, is-call}
 
 infixr 50 _▸▸_
 mutual
