@@ -29,7 +29,7 @@ abbrev Whole : Tree → Type 0
 Whole (infixed m p l r) = 256 ≤ m
 Whole (node k m p a b c d) = Unit {0}
 
-module _ (rules : Rules) (ts : List ℕ) where
+module _ (ts : List ℕ) where
   above-all : (t : Tree) → Binds ts (suc DivMulMod) t → EveryOf (KeepsBut ts) (t ▸ nil) → Whole t
   above-all (infixed m p l r) b k = go (decLt m 256)
     where
@@ -38,9 +38,6 @@ module _ (rules : Rules) (ts : List ℕ) where
       go (no ge) = omega arith
   above-all (node k m p c0 c1 c2 c3) b h = tt
 
-  whole : (v : Valid ts) (d s n : ℕ) (t : Tree) (c m : ℕ) → expression rules ts d DivMulMod s n ≡ read t c m → Whole t
-  whole v d s n t c m e = let a = placed ts v rules d DivMulMod s n t c m e in above-all t (a .2 .root) (a .2 .run .kept)
-
   binds-whole : (t : Tree) → Whole t → (n : ℕ) → Binds ts n t
   binds-whole (infixed m p l r) w n = λ lt. absurd (omega arith)
   binds-whole (node k m p c0 c1 c2 c3) w n = tt
@@ -48,6 +45,9 @@ module _ (rules : Rules) (ts : List ℕ) where
   joins-whole : (t : Tree) → Whole t → Joins (Keeps ts) t
   joins-whole (infixed m p l r) w = λ lt. absurd (omega arith)
   joins-whole (node k m p c0 c1 c2 c3) w = tt
+
+whole : (rules : Rules) (ts : List ℕ) (v : Valid ts) (d s n : ℕ) (t : Tree) (c m : ℕ) → expression rules ts d DivMulMod s n ≡ read t c m → Whole t
+whole rules ts v d s n t c m e = let a = placed ts v rules d DivMulMod s n t c m e in above-all ts t (a .2 .root) (a .2 .run .kept)
 
 -- The reading of a tree in front of other parts.
 abbrev onto : Tree → List Part → List Part
@@ -90,11 +90,11 @@ module _ {rules : Rules} {ts : List ℕ} {d : ℕ} where
   raise (g-two {p} l n q i a r) = let h : 1 ≤ order (tok ts p) = infix-facts (tok ts p) (omega arith) .least in g-two l n q i h r
 
   binds-good : (v : Valid ts) {lo s e : ℕ} {t : Tree} → Good rules ts d lo t s e → Binds ts lo t
-  binds-good v {lo} {s} {e} {t} (g-one x) = binds-whole rules ts t (whole rules ts v d s (size t) t e 0 x) lo
+  binds-good v {lo} {s} {e} {t} (g-one x) = binds-whole ts t (whole rules ts v d s (size t) t e 0 x) lo
   binds-good v (g-two l n q i a r) = λ lt. a
 
   joins-good : (v : Valid ts) {lo s e : ℕ} {t : Tree} → Good rules ts d lo t s e → Joins (Keeps ts) t
-  joins-good v {s} {e} {t} (g-one x) = joins-whole rules ts t (whole rules ts v d s (size t) t e 0 x)
+  joins-good v {s} {e} {t} (g-one x) = joins-whole ts t (whole rules ts v d s (size t) t e 0 x)
   joins-good v (g-two l n q i a r) = λ lt. ((binds-good v l, binds-good v r), joins-good v l, joins-good v r)
 
 -- Above its own order an operator stops the loop.
