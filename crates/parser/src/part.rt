@@ -80,7 +80,7 @@ pub fn closed(
     requires { ⌜ (Ready (now tokens) (now pool) first c) × (place < 65536) ⌝ }
     ensures { λ r. ⌜ Ends (contract.closed due (now (tokens .entry)) (word (token.Operator close)) number) (now (tokens .entry)) c first rows kind 0 place c0 c1 0 0 r (now (pool .entry)) (now (pool .exit)) ⌝ }
 {
-    if words::fits(tokens, c, close, due) {
+    if words::comes(tokens, c, close, due) {
         return put_row(
             pool,
             first,

@@ -235,7 +235,7 @@ fn body(
         return Read::Refused(missing, c);
     }
     let d = words::iterate(tokens, c);
-    if !words::fits(tokens, d, Symbol::SLBrace, due) {
+    if !words::comes(tokens, d, Symbol::SLBrace, due) {
         return Read::Refused(bare, d);
     }
     block_behind(tokens, pool, first, rows, d, mode, less)
@@ -582,7 +582,7 @@ fn braced(
     requires { ⌜ (Ready (now tokens) (now pool) first c) × (width * rows ≤ length (now pool)) ⌝ }
     ensures { λ r. ⌜ Behind one (contract.braced due (now (tokens .entry)) (spec.block (by mode) (now (tokens .entry)) (expression (by mode) (now (tokens .entry)) less) (spec.statement (by mode) (now (tokens .entry)) less)) number) (now (tokens .entry)) c first rows r (now (pool .entry)) (now (pool .exit)) ⌝ }
 {
-    if !words::fits(tokens, c, Symbol::SLBrace, due) {
+    if !words::comes(tokens, c, Symbol::SLBrace, due) {
         return Read::Refused(number, c);
     }
     block_behind(tokens, pool, first, rows, c, mode, less)

@@ -11,7 +11,7 @@ use Rattle.words.proofs.next_keyword_is.Reads as next-keyword-is
 use Rattle.words.proofs.is_identifier.Reads as is-identifier
 use Rattle.words.proofs.check.Reads as check
 use Rattle.words.proofs.mode_of.Reads as mode-of
-use Rattle.words.proofs.fits.Reads as fits
+use Rattle.words.proofs.comes.Reads as comes
 
 pub current-determined : Determines current.Post (λ κs r left. r)
 current-determined κs args r r′ left left′ p q = cc
@@ -46,5 +46,5 @@ check-determined κs args r r′ left left′ p q = cc
 pub mode-of-determined : Determines mode-of.Post (λ κs r left. r)
 mode-of-determined κs args r r′ left left′ p q = cc
 
-pub fits-determined : Determines fits.Post (λ κs r left. r)
-fits-determined κs args r r′ left left′ p q = cc
+pub comes-determined : Determines comes.Post (λ κs r left. r)
+comes-determined κs args r r′ left left′ p q = cc

@@ -7,7 +7,7 @@ pub use array::Checked;
 pub use array::check;
 pub use modes::Due;
 pub use modes::Mode;
-pub use modes::fits;
+pub use modes::comes;
 pub use modes::mode_of;
 pub use places::Cursor;
 pub use places::current;

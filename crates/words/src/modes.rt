@@ -28,7 +28,7 @@ pub fn mode_of(strict: bool) -> Mode
 }
 
 // Whether a sign comes next, where it must.
-pub fn fits(tokens: &[u16], c: Cursor, s: Symbol, due: Due) -> bool
+pub fn comes(tokens: &[u16], c: Cursor, s: Symbol, due: Due) -> bool
     ensures { λ r. ⌜ r ≡ comes due (now (tokens .entry)) c (word (token.Operator s)) ⌝ }
 {
     match due {

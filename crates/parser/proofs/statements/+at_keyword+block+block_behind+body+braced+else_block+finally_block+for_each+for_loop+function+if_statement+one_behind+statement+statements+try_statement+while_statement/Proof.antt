@@ -25,6 +25,7 @@ use Rattle.parser.proofs.statements.block_behind.Reads as block-behind-
 use Rattle.parser.proofs.statements.block.Reads as block-reads
 use Rattle.parser.proofs.statements.body.Reads as body-reads
 use Rattle.parser.proofs.statements.braced.Reads as braced-reads
+use Rattle.words.proofs.comes.Reads as comes-reads
 use Rattle.parser.proofs.simple.const_statement.Reads as const-statement-reads
 use Rattle.words.proofs.current_is.Reads as current-is-reads
 use Rattle.words.proofs.current.Reads as current-reads
@@ -34,7 +35,6 @@ use Rattle.rows.proofs.end.Reads as end-reads
 use Rattle.parser.proofs.expressions.expression.Reads as expression-reads
 use Rattle.parser.proofs.statements.finally_block.Reads as finally-block-reads
 use Rattle.parser.proofs.part.first_of.Reads as first-of-reads
-use Rattle.words.proofs.fits.Reads as fits-reads
 use Rattle.parser.proofs.statements.for_each.Reads as for-each-reads
 use Rattle.parser.proofs.statements.for_loop.Reads as for-loop-reads
 use Rattle.parser.proofs.statements.function.Reads as function-reads
@@ -205,17 +205,17 @@ pub +at-keyword+block+block-behind+body+braced+else-block+finally-block+for-each
     (block-behind-needs.add-t14 t)
     (block-behind-needs.same-length-2 t)
     (block-behind-needs.returns-2 t))
-    (λ t. body-lts.spec (next-symbol-is-reads.Asked, next-symbol-is-reads.Learnt, iterate-reads.Asked, iterate-reads.Learnt, fits-reads.Asked, fits-reads.Learnt, block-behind-below t, block-behind-reads.Post) (body-at t) body-reads.Post
+    (λ t. body-lts.spec (next-symbol-is-reads.Asked, next-symbol-is-reads.Learnt, iterate-reads.Asked, iterate-reads.Learnt, comes-reads.Asked, comes-reads.Learnt, block-behind-below t, block-behind-reads.Post) (body-at t) body-reads.Post
     (body-needs.next-symbol-is-requires t)
     (body-needs.returns t)
     (body-needs.iterate-requires t)
-    (body-needs.fits-requires t)
+    (body-needs.comes-requires t)
     (body-needs.returns-2 t)
     (body-needs.block-behind-requires t)
     (body-needs.same-length t)
     (body-needs.returns-3 t))
-    (λ t. braced-lts.spec (fits-reads.Asked, fits-reads.Learnt, block-behind-below t, block-behind-reads.Post) (braced-at t) braced-reads.Post
-    (braced-needs.fits-requires t)
+    (λ t. braced-lts.spec (comes-reads.Asked, comes-reads.Learnt, block-behind-below t, block-behind-reads.Post) (braced-at t) braced-reads.Post
+    (braced-needs.comes-requires t)
     (braced-needs.returns t)
     (braced-needs.block-behind-requires t)
     (braced-needs.same-length t)

@@ -137,7 +137,7 @@ module _ (t : ℕ) where
   next-symbol-is-requires c κs = search needs
 
   pub returns : lts.Need-returns cs (at-keyword-at t) at-keyword-reads.Post
-  returns c = rw (c .before .before .before .before .iterate .ensures) (refuses _ _ _ (stops _ _ _ _ _ (sym (c .before .next-symbol-is .ensures) ∙ c .if2 .taken) (rw (c .before .before .before .before .before .before .before .pre .1 .1) (sym (c .before .before .before .goes-further .ensures) ∙ c .before .before .if1 .taken))))
+  returns c = rw (c .before .before .before .before .iterate .ensures) (refuses _ _ _ (stops _ _ _ _ _ _ (sym (c .before .next-symbol-is .ensures) ∙ c .if2 .taken) (rw (c .before .before .before .before .before .before .before .pre .1 .1) (sym (c .before .before .before .goes-further .ensures) ∙ c .before .before .if1 .taken))))
 
   pub enum-told : lts.Need-enum-told cs (at-keyword-at t) at-keyword-reads.Post
   enum-told c = c .match .keys1
@@ -316,5 +316,5 @@ module _ (t : ℕ) where
 
   pub returns-15 : lts.Need-returns-15 cs (at-keyword-at t) at-keyword-reads.Post
   returns-15 c =
-      by-expression _ _ _ (c .before .before .before .before .before .before .before .before .before .before .pre .1 .1) (keyword-arm plain (but (1 ∷ 3 ∷ 4 ∷ 5 ∷ 6 ∷ 7 ∷ 8 ∷ 10 ∷ 11 ∷ 12 ∷ 16 ∷ 20 ∷ 25 ∷ []) 28) {k = c .before .before .before .before .before .before .before .before .before .before .args .k} refl (c .before .before .before .before .match .keys14) refl)
+      by-expression _ _ _ _ (c .before .before .before .before .before .before .before .before .before .before .pre .1 .1) (keyword-arm plain (but (1 ∷ 3 ∷ 4 ∷ 5 ∷ 6 ∷ 7 ∷ 8 ∷ 10 ∷ 11 ∷ 12 ∷ 16 ∷ 20 ∷ 25 ∷ []) 28) {k = c .before .before .before .before .before .before .before .before .before .before .args .k} refl (c .before .before .before .before .match .keys14) refl)
       (c .before .before .around2 .ensures)

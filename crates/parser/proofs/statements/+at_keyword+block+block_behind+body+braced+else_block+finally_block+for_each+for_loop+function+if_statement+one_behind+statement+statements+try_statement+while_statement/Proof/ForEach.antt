@@ -48,8 +48,8 @@ module _ (mode : Mode) (ts : List ℕ) (expr : Rec) (stmt : Reader Trees) (start
         unfolding third
         fourth = record { rest = _; eq = goes third e″ ∙ sym (body-then ts _ _ _ (By mode) (block (by mode) ts expr stmt) _ _ _) }
 
-        ended : {body : Tree} {at‴ left‴ : ℕ} → body (By mode) ts (block (by mode) ts expr stmt) SImpl InvalidSyntax WrongSign at″ left″ ≡ read body at‴ left‴
-            → foreach (by mode) ts expr stmt start room ≡ build (tree.foreach start iter index element body) at‴ left‴
+        ended : {inner : Tree} {at‴ left‴ : ℕ} → body (By mode) ts (block (by mode) ts expr stmt) SImpl InvalidSyntax WrongSign at″ left″ ≡ read inner at‴ left‴
+            → foreach (by mode) ts expr stmt start room ≡ build (tree.foreach start iter index element inner) at‴ left‴
         unfolding fourth
         ended f = goes fourth f
 

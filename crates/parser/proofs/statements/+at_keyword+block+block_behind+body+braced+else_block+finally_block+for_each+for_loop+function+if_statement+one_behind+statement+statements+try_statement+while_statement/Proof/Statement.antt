@@ -69,4 +69,4 @@ module _ (t : ℕ) where
   unfolding statement level is codes
   returns-4 c =
       let more : c .before .before .before .before .before .before .before .before .before .args .allow ≡ suc (c .before .before .before .before .before .before .before .before .before .args .allow - 1) = omega (arith, c .before .before .before .before .before .before .if1 .left) in rw more (by-eq (choose-false _ _ (not-true _ (rw (word-of (c .before .before .before .before .before .before .before .before .before .pre .1) (c .before .before .before .before .before .current .ensures)) (token-arm (λ w. not (eqb w Empty)) (but (1 ∷ 9 ∷ []) 11) (c .before .before .before .before .before .current .result) (c .before .before .before .before .match .keys3) refl))))
-      (as-list (by-expression _ _ _ (word-of (c .before .before .before .before .before .before .before .before .before .pre .1) (c .before .before .before .before .before .current .ensures)) (token-arm plain (but (1 ∷ 9 ∷ []) 11) (c .before .before .before .before .before .current .result) (c .before .before .before .before .match .keys3) refl) (c .before .before .around .ensures))))
+      (as-list (by-expression _ _ _ _ (word-of (c .before .before .before .before .before .before .before .before .before .pre .1) (c .before .before .before .before .before .current .ensures)) (token-arm plain (but (1 ∷ 9 ∷ []) 11) (c .before .before .before .before .before .current .result) (c .before .before .before .before .match .keys3) refl) (c .before .before .around .ensures))))

@@ -12,6 +12,8 @@ use Rattle.grammar.specs.Expressions.{expression}
 use Rattle.grammar.specs.Statements.{statement, statements}
 use Rattle.tokens.specs.Tokens.{word}
 use Rattle.tokens.specs.declared.Token.{Token}
+use Rattle.grammar.specs.Rules.{Rules}
+use Rattle.words.specs.Modes.{by}
 use Rattle.parser.specs.Meets.{Stands, many}
 use Rattle.parser.proofs.Answers.{bounds, bounded-tree, bounded-told, taken, pass, by-eq, choose-true, choose-false, then-read}
 use Rattle.parser.proofs.Ends.{begins, passes}
@@ -29,19 +31,19 @@ use Rattle.parser.proofs.statements.+at_keyword+block+block_behind+body
 use Rattle.parser.proofs.statements.+at_keyword+block+block_behind+body+braced+else_block+finally_block+for_each+for_loop+function+if_statement+one_behind+statement+statements+try_statement+while_statement.Proof.Measures.{statements-at, one-behind-below}
 
 -- What holds at each turn: the numbers fit, and from any list in the first rows the definition's loop has come as far.
-pub record Inv (ts pool₀ : List ℕ) (first : ℕ) (close : Token) (allow k₀ h₀ : ℕ) (d₀ : ℕ) (pool : List ℕ) (k h : ℕ) (d : ℕ) : Type 0 where
+pub record Inv (rules : Rules) (ts pool₀ : List ℕ) (first : ℕ) (close : Token) (allow k₀ h₀ : ℕ) (d₀ : ℕ) (pool : List ℕ) (k h : ℕ) (d : ℕ) : Type 0 where
   pub same : length pool ≡ length pool₀
   pub fit : width * k ≤ length pool
   pub on : d₀ ≤ d
   pub within : d < length ts
   pub state : (from : ℕ) (us : Trees) (zs : List ℕ) (left : ℕ) → Stands ts from (us ∷ []) first k₀ left zs pool₀ d₀ → h₀ ≡ head-ref us first
-      → Turning many (statements ts (expression ts allow) (statement ts allow) (word close)) ts from us d₀ left first k h zs pool d
+      → Turning many (statements rules ts (expression rules ts allow) (statement rules ts allow) (word close)) ts from us d₀ left first k h zs pool d
 
 abbrev pub Inv-loop : lts.InvT-loop
-Inv-loop tokens pool₀ first rows head c close allow k₀ h₀ d₀ pool k h d = Inv tokens pool₀ first close allow k₀ h₀ d₀ pool k h d
+Inv-loop tokens pool₀ first rows head c close mode allow k₀ h₀ d₀ pool k h d = Inv (by mode) tokens pool₀ first close allow k₀ h₀ d₀ pool k h d
 
 abbrev pub μ-loop : lts.MeasureT-loop
-μ-loop tokens pool₀ first rows head c close allow k₀ h₀ d₀ pool k h d = length tokens - d
+μ-loop tokens pool₀ first rows head c close mode allow k₀ h₀ d₀ pool k h d = length tokens - d
 
 module _ (t : ℕ) where
   abbrev cs : lts.Claims

@@ -40,8 +40,8 @@ module _ (mode : Mode) (ts : List ℕ) (expr : Rec) (stmt : Reader Trees) (start
     unfolding first
     second = record { rest = _; eq = goes first e ∙ sym (body-then ts _ _ _ (By mode) (block (by mode) ts expr stmt) _ _ _) }
 
-    ended : {body : Tree} {at′ left′ : ℕ} → body (By mode) ts (block (by mode) ts expr stmt) SRparen InvalidSyntax WrongSign at left ≡ read body at′ left′
-        → while (by mode) ts expr stmt start room ≡ build (tree.while start target body) at′ left′
+    ended : {inner : Tree} {at′ left′ : ℕ} → body (By mode) ts (block (by mode) ts expr stmt) SRparen InvalidSyntax WrongSign at left ≡ read inner at′ left′
+        → while (by mode) ts expr stmt start room ≡ build (tree.while start target inner) at′ left′
     unfolding second
     ended f = goes second f
 

@@ -1,9 +1,9 @@
--- `words::fits` meets its contract: whether a sign comes next, or that none is asked for. Assumes nothing.
+-- `words::comes` meets its contract: whether a sign comes next, or that none is asked for. Assumes nothing.
 use borrow.Author.Needs.{needs}
 use mathlib.Core.Path.{refl}
 use Rattle.grammar.specs.Rules.{fits}
-use Rattle.words.proofs.modes.fits.Statement.{statement}
-use Rattle.words.proofs.modes.fits.Tie as tie
+use Rattle.words.proofs.modes.comes.Statement.{statement}
+use Rattle.words.proofs.modes.comes.Tie as tie
 
 enum-told : tie.Need-enum-told
 enum-told c = search needs
@@ -34,8 +34,8 @@ returns-3 : tie.Need-returns-3
 unfolding fits
 returns-3 c = rw (c .before .before .before .before .due .given .1, c .before .enum-told3 .given .1, c .next-symbol-is2 .ensures)
 
-pub fits-spec : {M : Type 1} → statement M
-fits-spec =
+pub comes-spec : {M : Type 1} → statement M
+comes-spec =
     tie.close
     (tie.spec
     enum-told
