@@ -1,21 +1,22 @@
--- The theorems used, on arrays written out; and that ten open expressions are needed, that a statement counts among what is open, and that all the
--- rows are needed that are said to be enough.
+-- The theorems used, on arrays written out; and that ten open expressions are needed, that a statement counts among what is open, that all the
+-- rows are needed that are said to be enough, and that strict rules refuse.
 use Prim.Native.Nat.{ℕ, zero, suc, _+_, _-_, _*_, _≤_}
 use mathlib.Core.Path.{_≡_, refl}
 use mathlib.Core.List.{List, [], _∷_, _++_}
 use native.Mathlib.Omega.{arith}
 use lib.ListN.{replicate}
-use Rattle.grammar.specs.Words.{Operator, EOF, Identifier, SLParen, SRparen, SSemiColon, SExcl, SEq, SLBrace, SIncr, SLBox, SRBox, KTry, Zero, tok, step, is, next-is, class}
-use Rattle.grammar.specs.Words.{code, by-code, orders, infixes, order, infix-of, operates, goes-on, codes, valid}
-use Rattle.grammar.specs.Tree.{infixed, identifier, call, index, nil, _▸_, join, flag, flagged, is-call}
-use Rattle.grammar.specs.Parsed.{refused, _>>=_, _>>_, need, build, choose, match, turns, TooDeep, NoRow}
-use Rattle.grammar.specs.Rules.{original, fits}
+use Rattle.grammar.specs.Words.{Operator, EOF, Identifier, SLParen, SRparen, SSemiColon, SComma, SExcl, SEq, SLBrace, SRBrace, SIncr, SLBox, SRBox, SImpl, KWhile, KTry, KCatch, KFinally}
+use Rattle.grammar.specs.Words.{KForEach, Zero, tok, step, is, next-is, class, code, by-code, orders, infixes, order, infix-of, operates, goes-on, codes, valid}
+use Rattle.grammar.specs.Tree.{infixed, identifier, call, index, Trees, nil, _▸_, join, flag, flagged, is-call}
+use Rattle.grammar.specs.Parsed.{Parsed, refused, _>>=_, _>>_, need, build, choose, match, turns, TooDeep, NoRow}
+use Rattle.grammar.specs.Rules.{Rules, original, fits}
 use Rattle.grammar.specs.Expressions as e
 use Rattle.grammar.specs.Statements as s
-use Rattle.grammar.specs.Script.{nesting, longest, both, words-good, array-good, one-expression, one-statement, whole-script}
+use Rattle.grammar.specs.Script.{nesting, longest, both, words-good, array-good, one-expression, one-statement, whole-script, answer}
 use Rattle.grammar.specs.Claims.{operand, sign, Grouping, one, more, an-identifier, by-semicolons, final, further, rows-of, tokens-from, expression-rows, statement-rows, script-rows}
 use Rattle.grammar.proofs.Chains.{chains}
 use Rattle.grammar.proofs.Operands.{operands}
+use Rattle.grammar.proofs.Strict.{strict}
 
 abbrev a : ℕ
 a = Identifier
@@ -83,3 +84,38 @@ unfolding tok step is next-is class code by-code orders infixes order infix-of o
     nesting longest both words-good array-good one-expression one-statement whole-script e.get-identifier e.dot-expression e.prefix-part e.suffix-expression e.operation
     e.climb e.level e.expression s.statements s.opened s.block s.try s.expression-statement s.begun s.kept s.level s.statement
 lacking = (refl, refl, refl, refl)
+
+-- What an entry answers by strict rules, and by the original's.
+abbrev Answers : (Rules → Parsed Trees) → (strictly originally : List ℕ) → Type 0
+Answers entry s o = (answer (entry strict) ≡ s) × (answer (entry original) ≡ o)
+
+-- a ( a a; while ( a ) a }; foreach a , a , a => a }; try { } catch a { } finally a }; and while ( a ) { a ( a } } and while ( a ) { a ( a ) }
+abbrev unclosed : List ℕ
+unclosed = a ∷ SLParen ∷ a ∷ a ∷ EOF ∷ []
+
+abbrev while-open : List ℕ
+while-open = KWhile ∷ SLParen ∷ a ∷ SRparen ∷ a ∷ SRBrace ∷ EOF ∷ []
+
+abbrev foreach-open : List ℕ
+foreach-open = KForEach ∷ a ∷ SComma ∷ a ∷ SComma ∷ a ∷ SImpl ∷ a ∷ SRBrace ∷ EOF ∷ []
+
+abbrev finally-open : List ℕ
+finally-open = KTry ∷ SLBrace ∷ SRBrace ∷ KCatch ∷ a ∷ SLBrace ∷ SRBrace ∷ KFinally ∷ a ∷ SRBrace ∷ EOF ∷ []
+
+-- A call in a block, with this closer.
+abbrev inside : ℕ → List ℕ
+inside closer = KWhile ∷ SLParen ∷ a ∷ SRparen ∷ SLBrace ∷ a ∷ SLParen ∷ a ∷ closer ∷ SRBrace ∷ EOF ∷ []
+
+-- Strict rules refuse by 30, at the token before the wrong one, what the original's accept: the call, each body, and the call in a block. With two
+-- rows 30 comes before 3. With the right closer both accept.
+told-apart : Answers (λ rules. one-expression rules unclosed 0 3) (30 ∷ 2 ∷ 0 ∷ 0 ∷ []) (0 ∷ 3 ∷ 3 ∷ 3 ∷ [])
+    × Answers (λ rules. one-statement rules while-open 0 9) (30 ∷ 3 ∷ 0 ∷ 0 ∷ []) (0 ∷ 3 ∷ 3 ∷ 5 ∷ [])
+    × Answers (λ rules. one-statement rules foreach-open 0 9) (30 ∷ 6 ∷ 0 ∷ 0 ∷ []) (0 ∷ 5 ∷ 5 ∷ 8 ∷ [])
+    × Answers (λ rules. one-statement rules finally-open 0 9) (30 ∷ 7 ∷ 0 ∷ 0 ∷ []) (0 ∷ 5 ∷ 5 ∷ 9 ∷ [])
+    × Answers (λ rules. one-statement rules (inside SRBrace) 0 9) (30 ∷ 7 ∷ 0 ∷ 0 ∷ []) (0 ∷ 7 ∷ 7 ∷ 9 ∷ [])
+    × Answers (λ rules. one-expression rules unclosed 0 2) (30 ∷ 2 ∷ 0 ∷ 0 ∷ []) (3 ∷ 3 ∷ 0 ∷ 0 ∷ [])
+    × Answers (λ rules. one-statement rules (inside SRparen) 0 9) (0 ∷ 7 ∷ 7 ∷ 9 ∷ []) (0 ∷ 7 ∷ 7 ∷ 9 ∷ [])
+unfolding tok step is next-is class code by-code orders infixes order infix-of operates goes-on codes valid join _>>=_ _>>_ need build choose match turns answer
+    nesting longest both words-good array-good one-expression one-statement fits e.get-identifier e.dot-expression e.prefix-part e.entries e.list-expr e.call e.operation
+    e.climb e.level e.expression s.statements s.opened s.block s.while s.foreach s.finally s.try s.expression-statement s.begun s.kept s.level s.statement
+told-apart = ((refl, refl), (refl, refl), (refl, refl), (refl, refl), (refl, refl), (refl, refl), (refl, refl))
