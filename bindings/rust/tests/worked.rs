@@ -34,7 +34,7 @@ struct Line<'a> {
 fn line_of(text: &str) -> Option<Line<'_>> {
     let mut columns = text.strip_prefix("| ")?.split(" | ");
     let (head, tokens, answer) = (columns.next()?, columns.next()?, columns.next()?);
-    let (head, mode) = match head.strip_suffix(", strict") {
+    let (head, mode) = match head.strip_prefix("strict ") {
         Some(head) => (head, Mode::Strict),
         None => (head, Mode::Old),
     };
@@ -74,7 +74,8 @@ fn compare(line: &Line, text: &str) {
 fn the_tables_of_the_differences() {
     let page = text_of("docs/DIFFERENCES.md");
     let lines: Vec<_> = page.lines().filter_map(|text| Some((line_of(text)?, text))).collect();
-    assert!(lines.len() >= 200, "only {} examples", lines.len());
+    let strict = lines.iter().filter(|(line, _)| line.mode == Mode::Strict).count();
+    assert!(lines.len() >= 200 && strict >= 20, "{} examples, {} strict", lines.len(), strict);
     for (line, text) in lines {
         compare(&line, text);
     }
