@@ -31,8 +31,8 @@ const USAGE: &str = "commands:
   gen KIND [--seed N] [--count N] [--rows plenty|scarce|edge] [--mode old|strict]
                              a batch of cases on standard output
       (kinds: short valid damaged loose noise chains nesting limits mixed)
-  gen examples               a batch of the worked examples
-  gen modes                  a batch of those of strict mode, each in both modes
+  gen examples [--mode old|strict]   a batch of the worked examples
+  gen modes --mode old|strict        a batch of those that are there with both modes' answers
   record [--every N] [--most BYTES]   the cases of the batch on standard input, each with its answer
       (one of every N cases; no records of more than so many bytes; stops where model and original
       differ, and prints on standard error how many answers both give)
@@ -74,8 +74,15 @@ fn run(arguments: &[String]) -> io::Result<bool> {
     let command = arguments.first().map_or("", String::as_str);
     let rest = arguments.get(1..).unwrap_or(&[]);
     match (command, rest) {
-        ("gen", [kind]) if kind == "examples" => generate_all(examples::all()?),
-        ("gen", [kind]) if kind == "modes" => generate_all(examples::modes()?),
+        ("gen", [kind]) if kind == "examples" => generate(cases_of(examples::all()?)),
+        ("gen", [kind, option, name]) if kind == "examples" && option == "--mode" => {
+            let by = mode(name)?;
+            generate(cases_of(examples::all()?).map(|case| case.by(by)))
+        }
+        ("gen", [kind, option, name]) if kind == "modes" && option == "--mode" => {
+            let by = mode(name)?;
+            generate(cases_of(examples::modes()?).filter(|case| case.mode == by))
+        }
         ("gen", rest) if !rest.is_empty() => generate(gen::cases(&wish(rest)?)),
         ("record", rest) => {
             let (mut cases, mut out) = (io::stdin().lock(), BufWriter::new(io::stdout().lock()));
@@ -189,8 +196,8 @@ fn shown(arguments: &[String]) -> io::Result<batch::Case> {
     Ok(batch::Case { entry, mode: by, start, pool, tokens })
 }
 
-fn generate_all(examples: Vec<examples::Example>) -> io::Result<bool> {
-    generate(examples.into_iter().map(|example| example.case))
+fn cases_of(examples: Vec<examples::Example>) -> impl Iterator<Item = batch::Case> {
+    examples.into_iter().map(|example| example.case)
 }
 
 fn generate(cases: impl Iterator<Item = batch::Case>) -> io::Result<bool> {
