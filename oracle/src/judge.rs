@@ -11,6 +11,11 @@ use crate::signs;
 /// The refusals that the original doesn't know.
 pub const OURS: [u32; 5] = [1, 2, 3, 4, WRONG_SIGN];
 
+/// Whether the original can't give an answer with this number. In the old mode no sign is wrong.
+fn is_ours(case: &Case, number: u32) -> bool {
+    OURS.contains(&number) && (number != WRONG_SIGN || case.mode == Mode::Strict)
+}
+
 /// Whether model and original differ, with both answers; None where only the model can answer. In
 /// strict mode the answer is first held to the model's in the old mode.
 pub fn difference(case: &Case, answer: &Answer) -> Option<Result<(), String>> {
@@ -21,7 +26,7 @@ pub fn difference(case: &Case, answer: &Answer) -> Option<Result<(), String>> {
             return Some(Err(told));
         }
     }
-    if OURS.contains(&answer.words[0]) {
+    if is_ours(case, answer.words[0]) {
         return None;
     }
     let outcome = original::run(case);
@@ -67,8 +72,8 @@ fn unlike_old(case: &Case, answer: &Answer, old: &Answer) -> Option<&'static str
     if !refused && answer != old {
         return Some("neither the same nor a wrong sign");
     }
-    if refused && !(answer.words[1] < end && signs::may_be_missing(case, answer.words[1] as usize))
-    {
+    let place = answer.words[1];
+    if refused && !(place < end && signs::may_be_missing(case, place as usize)) {
         return Some("no sign is missing there");
     }
     if accepted && refused == signs::are_there(case, old) {
@@ -77,7 +82,7 @@ fn unlike_old(case: &Case, answer: &Answer, old: &Answer) -> Option<&'static str
     None
 }
 
-/// Whether an answer is an acceptance, and the place where reading has ended.
+/// Whether an answer is an acceptance, and the place where reading ended.
 fn ends(answer: &Answer) -> (bool, u32) {
     match answer.words {
         [0, _, _, end] => (true, end),
@@ -177,6 +182,8 @@ mod tests {
                 assert!(verdict.unwrap().is_err(), "{} at {}", text, place);
             }
         }
+        let old = Answer { words: [WRONG_SIGN, 2, 0, 0], clean: 1, rows: vec![] };
+        assert!(difference(&case("f ( a b"), &old).unwrap().is_err());
         // In a group the old mode doesn't go on either.
         assert!(judged(&case("( a b"), [WRONG_SIGN, 1, 0, 0]).unwrap().is_err());
     }

@@ -1,4 +1,5 @@
-//! The signs that strict mode asks for, found by the brackets of an array, without a reader.
+//! The signs that strict mode asks for, found without a reader: by the brackets of an array, and by
+//! the rows of an accepted answer.
 use crate::batch::{Answer, Case};
 use crate::kinds::CALL;
 use crate::model::{CHILDREN, ROW, WRONG_SIGN};
@@ -15,6 +16,14 @@ enum Form {
     Foreach,
     Finally,
 }
+
+/// The forms by name.
+const FORMS: [(&str, Form); 4] = [
+    ("call", Form::Call),
+    ("while", Form::While),
+    ("foreach", Form::Foreach),
+    ("finally", Form::Finally),
+];
 
 /// How often the sign of each form was missing.
 #[derive(Debug, Default, PartialEq)]
@@ -42,14 +51,7 @@ impl fmt::Display for Missing {
     }
 }
 
-/// The forms by name.
-const FORMS: [(&str, Form); 4] = [
-    ("call", Form::Call),
-    ("while", Form::While),
-    ("foreach", Form::Foreach),
-    ("finally", Form::Finally),
-];
-
+/// The brackets, opener and closer.
 const BRACKETS: [(u16, u16); 3] = [(LPAREN, RPAREN), (LBRACE, RBRACE), (LBOX, RBOX)];
 
 /// The brackets of a part of an array.
