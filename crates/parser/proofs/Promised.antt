@@ -35,13 +35,13 @@ opens (read us at left) root used place words ys e =
     record { trees = us; left = left; was-read = cc; all-used = cc; root-last = cc }
 
 pub chains-answered : ChainsAnswered
-chains-answered ts deep s at used parts g r words ys enough e =
-    let c = answers ts deep s at used parts g words enough in
+chains-answered rules ts deep s at used parts g r words ys enough e =
+    let c = answers rules ts deep s at used parts g words enough in
     (numbered _ r words ys e ∙ c .0, e .left ∙ c .1)
 
 pub rule-answered : RuleAnswered
-rule-answered ts start room words r ys =
-    let c = pool-rule ts start room words in
+rule-answered rules ts start room words r ys =
+    let c = pool-rule rules ts start room words in
     (λ e. rw (e .left) (c .0), λ e. rw (e .left) (c .1), λ e. rw (e .left) (c .2))
 
 -- A refusal that an entry answers is the definition's.
@@ -54,8 +54,8 @@ either : {P : Parsed Trees} {A B : Type 0} {number place words : ℕ} {ys : List
 either {P} f g h e = ⊎-elim (λ a. f a (refusal P e)) (λ b. g b (refusal P e)) h
 
 pub enough-answered : EnoughAnswered
-enough-answered ts start words = (
-  λ h place ys. either (rows-enough ts start (rows words) place .0) (λ g. largest-enough ts start (rows words) place (rows-full words g) .0) h,
-  λ h place ys. either (rows-enough ts start (rows words) place .1) (λ g. largest-enough ts start (rows words) place (rows-full words g) .1) h,
-  λ h place ys. either (rows-enough ts start (rows words) place .2) (λ g. largest-enough ts start (rows words) place (rows-full words g) .2) h,
+enough-answered rules ts start words = (
+  λ h place ys. either (rows-enough rules ts start (rows words) place .0) (λ g. largest-enough rules ts start (rows words) place (rows-full words g) .0) h,
+  λ h place ys. either (rows-enough rules ts start (rows words) place .1) (λ g. largest-enough rules ts start (rows words) place (rows-full words g) .1) h,
+  λ h place ys. either (rows-enough rules ts start (rows words) place .2) (λ g. largest-enough rules ts start (rows words) place (rows-full words g) .2) h,
 )

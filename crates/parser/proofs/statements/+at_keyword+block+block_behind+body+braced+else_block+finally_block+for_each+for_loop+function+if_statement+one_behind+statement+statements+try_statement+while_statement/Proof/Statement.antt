@@ -21,8 +21,8 @@ use Rattle.parser.proofs.expressions.around.Reads as around-reads
 use Rattle.parser.proofs.statements.at_keyword.Reads as at-keyword-reads
 use Rattle.words.proofs.current.Reads as current-reads
 use Rattle.parser.proofs.statements.statement.Reads as statement-reads
-use Rattle.parser.proofs.statements.+at_keyword+block+block_behind+body+braced+else_block+finally_block+for_each+for_loop+function+if_statement+one_behind+open_body+statement+statements+try_statement+while_statement.Lts-statement as lts
-use Rattle.parser.proofs.statements.+at_keyword+block+block_behind+body+braced+else_block+finally_block+for_each+for_loop+function+if_statement+one_behind+open_body+statement+statements+try_statement+while_statement.Proof.Measures.{statement-at, at-keyword-below}
+use Rattle.parser.proofs.statements.+at_keyword+block+block_behind+body+braced+else_block+finally_block+for_each+for_loop+function+if_statement+one_behind+statement+statements+try_statement+while_statement.Lts-statement as lts
+use Rattle.parser.proofs.statements.+at_keyword+block+block_behind+body+braced+else_block+finally_block+for_each+for_loop+function+if_statement+one_behind+statement+statements+try_statement+while_statement.Proof.Measures.{statement-at, at-keyword-below}
 
 module _ (t : ℕ) where
   abbrev cs : lts.Claims
