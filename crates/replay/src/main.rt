@@ -8,7 +8,7 @@ use rows::MOST;
 use rows::WIDTH;
 use stream::half;
 use stream::read;
-use words::Mode;
+use words::mode_of;
 
 // The most words of an array and of a pool, which has two rows more than are ever used, and the bytes of such a case with its
 // record.
@@ -35,20 +35,11 @@ fn fill(bytes: &[u8], tokens: &mut [u16]) {
     }
 }
 
-// The mode of an entry.
-fn mode_of(entry: u16) -> Mode {
-    if entry < STRICT {
-        Mode::Old
-    } else {
-        Mode::Strict
-    }
-}
-
 // The answer of a case's entry.
 fn given(bytes: &[u8], tokens: &[u16], pool: &mut [u32]) -> Answer {
     let entry = half(bytes, stream::ENTRY);
     let start = half(bytes, stream::START) as usize;
-    let mode = mode_of(entry);
+    let mode = mode_of(entry >= STRICT);
     match entry {
         0 | 3 => parser::one_expression(tokens, pool, start, mode),
         1 | 4 => parser::one_statement(tokens, pool, start, mode),
