@@ -196,6 +196,7 @@ fn shown(arguments: &[String]) -> io::Result<batch::Case> {
     Ok(batch::Case { entry, mode: by, start, pool, tokens })
 }
 
+/// The cases of some examples.
 fn cases_of(examples: Vec<examples::Example>) -> impl Iterator<Item = batch::Case> {
     examples.into_iter().map(|example| example.case)
 }
