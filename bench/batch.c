@@ -10,6 +10,9 @@
    16-bit word. */
 enum { MOST_WORDS = (MOST_ROWS + 1) * ROW, MOST_TOKENS = UINT16_MAX };
 
+/* The entries in the old mode, 0 to 2; behind them are the same in strict mode. */
+enum { ENTRIES = 3 };
+
 static uint16_t tokens[MOST_TOKENS];
 static uint32_t pool[MOST_WORDS];
 
@@ -58,12 +61,13 @@ static void read_case(const uint16_t head[5]) {
     size_t asked = head[2] | (size_t)head[3] << 16;
     size_t length = asked < MOST_WORDS ? asked : MOST_WORDS;
     uint64_t answer[4];
+    bool strict = head[0] >= ENTRIES;
     memset(pool, 0xFF, length * sizeof *pool);
-    switch (head[0]) {
-    case 0: plain_one_expression(tokens, head[4], pool, length, head[1], answer); break;
-    case 1: plain_one_statement(tokens, head[4], pool, length, head[1], answer); break;
-    case 2: plain_whole_script(tokens, head[4], pool, length, answer); break;
-    default: fail("a case has an entry above 2");
+    switch (strict ? head[0] - ENTRIES : head[0]) {
+    case 0: plain_one_expression(tokens, head[4], pool, length, head[1], strict, answer); break;
+    case 1: plain_one_statement(tokens, head[4], pool, length, head[1], strict, answer); break;
+    case 2: plain_whole_script(tokens, head[4], pool, length, strict, answer); break;
+    default: fail("a case has an entry above 5");
     }
     put_answer(answer, length);
 }

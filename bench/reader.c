@@ -197,12 +197,14 @@ static uint32_t parse_infix_expression(Reader *r, uint32_t left, const Sign *sig
     return build(r, INFIX, sign->mark, place, left, right);
 }
 
-/* Any token closes a call that has arguments. */
+/* In the old mode any token closes a call that has arguments. */
 static uint32_t parse_call_expression(Reader *r, uint32_t function) {
     uint32_t place = r->at;
     uint32_t arguments = parse_list_expr(r);
     if (arguments == FAILED)
         return FAILED;
+    if (!fits(r, T_RPAREN))
+        return refuse(r, WRONG_SIGN);
     iterate(r);
     return build(r, CALL, 0, place, function, arguments);
 }
@@ -288,6 +290,13 @@ static uint32_t parse_block_statement(Reader *r) {
 static uint32_t parse_braced_block(Reader *r, uint32_t number) {
     if (next(r) != T_LBRACE)
         return refuse(r, number);
+    return parse_block_statement(r);
+}
+
+/* A block whose opener may be any token in the old mode. */
+static uint32_t parse_opened_block(Reader *r) {
+    if (!fits(r, T_LBRACE))
+        return refuse(r, WRONG_SIGN);
     return parse_block_statement(r);
 }
 
@@ -397,7 +406,7 @@ static uint32_t parse_while_statement(Reader *r) {
         return FAILED;
     if (!take(r, T_RPAREN))
         return refuse(r, INVALID_SYNTAX);
-    uint32_t block = parse_block_statement(r);
+    uint32_t block = parse_opened_block(r);
     if (block == FAILED)
         return FAILED;
     return build(r, WHILE, 0, place, target, block);
@@ -434,7 +443,7 @@ static uint32_t parse_for_each_statement(Reader *r) {
         return FAILED;
     if (!take(r, T_IMPL))
         return refuse(r, INVALID_SYNTAX);
-    uint32_t block = parse_block_statement(r);
+    uint32_t block = parse_opened_block(r);
     if (block == FAILED)
         return FAILED;
     return build4(r, FOREACH, 0, place, iterator, index, element, block);
@@ -453,7 +462,7 @@ static uint32_t parse_try_statement(Reader *r) {
     if (catch_block == FAILED)
         return FAILED;
     if (take(r, T_FINALLY)) {
-        final_block = parse_block_statement(r);
+        final_block = parse_opened_block(r);
         if (final_block == FAILED)
             return FAILED;
     }
@@ -538,10 +547,10 @@ static void answer_refusal(uint64_t answer[4], uint64_t number, uint64_t place) 
 
 /* Clears the pool, checks the array and the start, and reads. */
 static void enter(uint32_t (*entry)(Reader *), const uint16_t *tokens, size_t count, uint32_t *pool,
-                  size_t words, size_t start, uint64_t answer[4]) {
+                  size_t words, size_t start, bool strict, uint64_t answer[4]) {
     size_t rows = words / ROW < MOST_ROWS ? words / ROW : MOST_ROWS;
     size_t fault = first_fault(tokens, count);
-    Reader r = {tokens, (uint32_t)count - 1, (uint32_t)start, 0, pool, (uint32_t)rows, 0, 0};
+    Reader r = {tokens, (uint32_t)count - 1, (uint32_t)start, 0, pool, (uint32_t)rows, 0, 0, strict};
     memset(pool, 0, words * sizeof *pool);
     if (count == 0 || fault < count) {
         answer_refusal(answer, BAD_ARRAY, fault);
@@ -568,16 +577,16 @@ static uint32_t parse_whole_expression(Reader *r) {
 }
 
 void plain_one_expression(const uint16_t *tokens, size_t count, uint32_t *pool, size_t words,
-                          size_t start, uint64_t answer[4]) {
-    enter(parse_whole_expression, tokens, count, pool, words, start, answer);
+                          size_t start, bool strict, uint64_t answer[4]) {
+    enter(parse_whole_expression, tokens, count, pool, words, start, strict, answer);
 }
 
 void plain_one_statement(const uint16_t *tokens, size_t count, uint32_t *pool, size_t words,
-                         size_t start, uint64_t answer[4]) {
-    enter(parse_statement, tokens, count, pool, words, start, answer);
+                         size_t start, bool strict, uint64_t answer[4]) {
+    enter(parse_statement, tokens, count, pool, words, start, strict, answer);
 }
 
 void plain_whole_script(const uint16_t *tokens, size_t count, uint32_t *pool, size_t words,
-                        uint64_t answer[4]) {
-    enter(parse, tokens, count, pool, words, 0, answer);
+                        bool strict, uint64_t answer[4]) {
+    enter(parse, tokens, count, pool, words, 0, strict, answer);
 }

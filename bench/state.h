@@ -26,6 +26,7 @@ typedef struct {
     uint32_t rows; /* rows of the pool */
     uint32_t used;
     uint32_t number; /* of the refusal */
+    bool strict;     /* whether a closer of a call and an opener of a body must be the right one */
 } Reader;
 
 /* The first and the last row of a list. */
@@ -63,6 +64,11 @@ static inline bool take(Reader *r, uint16_t word) {
         return false;
     iterate(r);
     return true;
+}
+
+/* Whether the next token is `word`, where the mode asks for it. */
+static inline bool fits(const Reader *r, uint16_t word) {
+    return !r->strict || next(r) == word;
 }
 
 static inline bool is_terminated(Reader *r) {

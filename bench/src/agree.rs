@@ -28,6 +28,7 @@ fn agreed(tokens: &[u16], rows: usize) -> ([u64; 4], Vec<u32>) {
     let plain = by(readers::plain);
     if Reader::all().contains(&Reader::Ours) {
         assert!(by(readers::ours) == plain, "this reader and the C reader differ");
+        assert!(by(readers::strict) == plain, "this reader differs in strict mode");
     }
     plain
 }

@@ -35,6 +35,7 @@ pub fn once(reader: Reader, kind: Kind, length: usize) {
             drop(tree);
         }
         Reader::Ours => between(readers::ours, &tokens, &mut pool),
+        Reader::Strict => between(readers::strict, &tokens, &mut pool),
         Reader::Plain => between(readers::plain, &tokens, &mut pool),
     }
     println!("{} {} {} {}", reader.name(), kind.name(), length, rows);

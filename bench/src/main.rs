@@ -27,7 +27,7 @@ use scripts::Kind;
 const USAGE: &str = "commands:
   times [--samples N]         tables of times, best of N samples (15 unless given)
   count READER KIND TOKENS    one read between two marks
-      (readers: original ours plain; kinds: chains calls statements)";
+      (readers: original ours strict plain; kinds: chains calls statements)";
 
 /// The original recurses as deep as its statements nest, and its trees are dropped so too.
 const STACK: usize = 1 << 28;

@@ -1,4 +1,4 @@
-//! The three readers of a whole script: this reader and the plain C one through the C interface, and the original.
+//! The readers of a whole script: this reader in both modes and the plain C one through the C interface, and the original.
 use crate::lexer::LexerAPI;
 use crate::parser::ast::Program;
 use crate::parser::Parser;
@@ -14,20 +14,35 @@ pub const NEXT: usize = CHILD + 4;
 pub enum Reader {
     Original,
     Ours,
+    /// This reader in strict mode. All others read in the old mode, which is the original's.
+    Strict,
     Plain,
 }
 
 impl Reader {
+    const ALL: [Reader; 4] = [Reader::Original, Reader::Ours, Reader::Strict, Reader::Plain];
+
+    /// Whether it is this reader, which the bench may be built without.
+    fn is_ours(self) -> bool {
+        matches!(self, Reader::Ours | Reader::Strict)
+    }
+
     /// The readers that this bench was built with.
     pub fn all() -> Vec<Reader> {
-        let ours = if cfg!(feature = "ours") { Some(Reader::Ours) } else { None };
-        [Some(Reader::Original), ours, Some(Reader::Plain)].iter().copied().flatten().collect()
+        let there = |reader: &Reader| cfg!(feature = "ours") || !reader.is_ours();
+        Reader::ALL.iter().copied().filter(there).collect()
+    }
+
+    /// Those in the old mode, which are timed.
+    pub fn timed() -> Vec<Reader> {
+        Reader::all().into_iter().filter(|&reader| reader != Reader::Strict).collect()
     }
 
     pub fn name(self) -> &'static str {
         match self {
             Reader::Original => "original",
             Reader::Ours => "ours",
+            Reader::Strict => "strict",
             Reader::Plain => "plain",
         }
     }
@@ -43,6 +58,7 @@ extern "C" {
         count: usize,
         pool: *mut u32,
         words: usize,
+        strict: bool,
         answer: *mut u64,
     );
 }
@@ -54,6 +70,7 @@ extern "C" {
         count: usize,
         pool: *mut u32,
         words: usize,
+        strict: bool,
         answer: *mut u64,
         answer_count: usize,
     );
@@ -62,22 +79,32 @@ extern "C" {
 /// The plain C reader's answer to a script.
 pub fn plain(tokens: &[u16], pool: &mut [u32]) -> [u64; 4] {
     let mut answer = [0; 4];
-    let (words, rows) = (tokens.as_ptr(), pool.as_mut_ptr());
-    unsafe { plain_whole_script(words, tokens.len(), rows, pool.len(), answer.as_mut_ptr()) };
+    let (words, rows, out) = (tokens.as_ptr(), pool.as_mut_ptr(), answer.as_mut_ptr());
+    unsafe { plain_whole_script(words, tokens.len(), rows, pool.len(), false, out) };
     answer
 }
 
 /// This reader's answer to a script.
-#[cfg(feature = "ours")]
 pub fn ours(tokens: &[u16], pool: &mut [u32]) -> [u64; 4] {
+    in_mode(tokens, pool, false)
+}
+
+/// The same in strict mode.
+pub fn strict(tokens: &[u16], pool: &mut [u32]) -> [u64; 4] {
+    in_mode(tokens, pool, true)
+}
+
+#[cfg(feature = "ours")]
+fn in_mode(tokens: &[u16], pool: &mut [u32], strict: bool) -> [u64; 4] {
     let mut answer = [0; 4];
     let (words, rows, out) = (tokens.as_ptr(), pool.as_mut_ptr(), answer.as_mut_ptr());
-    unsafe { shigthapul_whole_script(words, tokens.len(), rows, pool.len(), out, answer.len()) };
+    let (count, length) = (tokens.len(), pool.len());
+    unsafe { shigthapul_whole_script(words, count, rows, length, strict, out, answer.len()) };
     answer
 }
 
 #[cfg(not(feature = "ours"))]
-pub fn ours(_tokens: &[u16], _pool: &mut [u32]) -> [u64; 4] {
+fn in_mode(_tokens: &[u16], _pool: &mut [u32], _strict: bool) -> [u64; 4] {
     unreachable!("`Reader::all` leaves this reader out")
 }
 

@@ -33,7 +33,7 @@ impl Line {
 }
 
 pub fn print(samples: usize) {
-    let readers = Reader::all();
+    let readers = Reader::timed();
     println!(
         "Processor time, best of {} samples. Each script is lent a pool of just the rows it takes.",
         samples

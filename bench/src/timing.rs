@@ -42,6 +42,7 @@ fn sample(reader: Reader, cases: &[Case], pool: &mut [u32], passes: usize) -> Du
     match reader {
         Reader::Original => sample_of_original(cases, passes),
         Reader::Ours => sample_of(readers::ours, cases, pool, passes),
+        Reader::Strict => sample_of(readers::strict, cases, pool, passes),
         Reader::Plain => sample_of(readers::plain, cases, pool, passes),
     }
 }

@@ -1,7 +1,8 @@
 /* Reads a token file on standard input and prints its tree as an outline, or why it is refused.
 
-   example          a line for each row, indented: kind, operator or flags, place
-   example --rows   the lines of the program `outline`: the answer, and the words of each row
+   example            a line for each row, indented: kind, operator or flags, place
+   example --rows     the lines of the program `outline`: the answer, and the words of each row
+   example --strict   the same as either, in strict mode and not in the old one
 
    The status is 0 where the script is accepted, 1 where it is refused, 2 where the command is wrong. */
 #include <inttypes.h>
@@ -23,13 +24,13 @@ static struct {
     int depth;
 } waiting[ROWS];
 
-/* Reads the file's fields, and the script that they are. */
-static struct shigthapul_answer read_script(size_t length) {
+/* Reads the file's fields, and the script that they are, in strict mode or in the old one. */
+static struct shigthapul_answer read_script(size_t length, bool strict) {
     struct shigthapul_answer answer;
     shigthapul_read_file(bytes, length, tokens, TOKENS, answer.words, SHIGTHAPUL_ANSWER_WORDS);
     if (shigthapul_is_accepted(&answer)) {
         size_t count = shigthapul_count(&answer);
-        shigthapul_whole_script(tokens, count, pool, POOL, answer.words, SHIGTHAPUL_ANSWER_WORDS);
+        shigthapul_whole_script(tokens, count, pool, POOL, strict, answer.words, SHIGTHAPUL_ANSWER_WORDS);
     }
     return answer;
 }
@@ -113,13 +114,21 @@ static void print_outline(const struct shigthapul_answer *answer) {
         printf("refused %" PRIu32 " at %zu: %s\n", refusal, shigthapul_place(answer), shigthapul_refusal_text(refusal));
 }
 
+/* Takes an option off the front of the command's words, if it is there. */
+static bool take(char ***words, const char *option) {
+    bool there = **words != NULL && strcmp(**words, option) == 0;
+    *words += there;
+    return there;
+}
+
 int main(int count, char **words) {
-    bool rows = count == 2 && strcmp(words[1], "--rows") == 0;
-    if (count > 1 && !rows) {
-        fputs("usage: example [--rows] < FILE.tok\n", stderr);
+    words += count > 0;
+    bool strict = take(&words, "--strict"), rows = take(&words, "--rows");
+    if (*words != NULL) {
+        fputs("usage: example [--strict] [--rows] < FILE.tok\n", stderr);
         return 2;
     }
-    struct shigthapul_answer answer = read_script(fread(bytes, 1, BYTES, stdin));
+    struct shigthapul_answer answer = read_script(fread(bytes, 1, BYTES, stdin), strict);
     if (rows)
         print_rows(&answer);
     else

@@ -15,8 +15,9 @@ extern "C" {
 
 /* What a caller owes. Each pointer is followed by a length in elements. It must be good for so many elements, aligned
    for their type and not null, also where the length is 0. What is written must overlap nothing else that is lent.
-   No pointer is kept after a call, and there is no state: any number of threads may call. A call takes some stack;
-   docs/GUIDE.md says how much.
+   A bool is true or false; where another language has no bool of C's, it passes a byte that is 1 or 0. No pointer is
+   kept after a call, and there is no state: any number of threads may call. A call takes some stack; docs/GUIDE.md says
+   how much.
 
    What a caller gets. Nothing else is asked: for any words and any lengths the functions are proved to stay inside
    what they are lent, and to return. Each writes four words to the front of `answer`, as far as that goes; words
@@ -40,16 +41,24 @@ enum {
     SHIGTHAPUL_TOKEN_WORDS = 2 * SHIGTHAPUL_ROW_WORDS
 };
 
+/* The mode, which the three functions below take as `strict`. In the old mode, false, any token closes a call that has
+   arguments, and any token opens the body of while, foreach or finally, as in the original. In strict mode, true, these
+   must be ) and {, or the script is refused with SHIGTHAPUL_REFUSED_WRONG_SIGN. Whatever strict mode doesn't refuse so
+   has the same answer and the same pool as in the old mode.
+
+   The three functions have gained this parameter, and kept their names: an app that calls them without it has to be
+   changed and built anew, as a linker can't tell the two apart. */
+
 /* Read one expression, or one statement, from the place `start`. `tokens` has 1 to 32,768 words, EOF last and nowhere
    else. The tree goes into `pool`, every other word of which becomes 0; after a refusal all of them are 0. A statement
    that is a lone Empty token is accepted with root 0. */
 void shigthapul_one_expression(const uint16_t *tokens, size_t tokens_len, uint32_t *pool, size_t pool_len, size_t start,
-                               uint64_t *answer, size_t answer_len);
+                               bool strict, uint64_t *answer, size_t answer_len);
 void shigthapul_one_statement(const uint16_t *tokens, size_t tokens_len, uint32_t *pool, size_t pool_len, size_t start,
-                              uint64_t *answer, size_t answer_len);
+                              bool strict, uint64_t *answer, size_t answer_len);
 
 /* Reads a whole script: the same, from place 0 to EOF. The root is a block at place 0. */
-void shigthapul_whole_script(const uint16_t *tokens, size_t tokens_len, uint32_t *pool, size_t pool_len,
+void shigthapul_whole_script(const uint16_t *tokens, size_t tokens_len, uint32_t *pool, size_t pool_len, bool strict,
                              uint64_t *answer, size_t answer_len);
 
 /* Reads a token file of at most 60,000 bytes into the front of `words`, and zeroes the rest; after a refusal every

@@ -44,7 +44,8 @@
     X(SHIGTHAPUL_REFUSED_NOT_CALLABLE, 26, "thread, async: not in front of a call") \
     X(SHIGTHAPUL_REFUSED_TRY_WITHOUT_CATCH, 27, "try: no catch") \
     X(SHIGTHAPUL_REFUSED_BREAK_WITHOUT_SEMICOLON, 28, "break: no ;") \
-    X(SHIGTHAPUL_REFUSED_CONTINUE_WITHOUT_SEMICOLON, 29, "continue: no ;")
+    X(SHIGTHAPUL_REFUSED_CONTINUE_WITHOUT_SEMICOLON, 29, "continue: no ;") \
+    X(SHIGTHAPUL_REFUSED_WRONG_SIGN, 30, "a call with arguments: no ); while, foreach, finally: no {")
 SHIGTHAPUL_TABLE(refusal, SHIGTHAPUL_REFUSALS)
 
 /* The kinds of rows, with what their children are. A list is the child and the rows behind it by next words. */

@@ -42,7 +42,7 @@ static void test_expression(void) {
     const uint16_t sum[] = {A, PLUS, A, END};
     struct shigthapul_answer answer;
     memset(pool, 7, sizeof pool);
-    shigthapul_one_expression(sum, LENGTH(sum), pool, LENGTH(pool), 0, ANSWER(answer));
+    shigthapul_one_expression(sum, LENGTH(sum), pool, LENGTH(pool), 0, true, ANSWER(answer));
     CHECK(shigthapul_is_accepted(&answer) && shigthapul_refusal(&answer) == 0);
     CHECK(shigthapul_root(&answer) == 3 && shigthapul_rows(&answer) == 3 && shigthapul_place(&answer) == 2);
     CHECK(left(3) == 0);
@@ -56,7 +56,7 @@ static void test_refusal(void) {
     const uint16_t group[] = {OPEN, A, CLOSE, END};
     struct shigthapul_answer answer;
     memset(pool, 7, sizeof pool);
-    shigthapul_whole_script(group, LENGTH(group), pool, LENGTH(pool), ANSWER(answer));
+    shigthapul_whole_script(group, LENGTH(group), pool, LENGTH(pool), true, ANSWER(answer));
     CHECK(!shigthapul_is_accepted(&answer));
     CHECK(shigthapul_refusal(&answer) == SHIGTHAPUL_REFUSED_INVALID_SYNTAX && shigthapul_place(&answer) == 1);
     CHECK(shigthapul_root(&answer) == 0 && shigthapul_rows(&answer) == 0 && shigthapul_count(&answer) == 0);
@@ -66,10 +66,28 @@ static void test_refusal(void) {
 static void test_statement(void) {
     const uint16_t blank[] = {A, EMPTY, END};
     struct shigthapul_answer answer;
-    shigthapul_one_statement(blank, LENGTH(blank), pool, LENGTH(pool), 1, ANSWER(answer));
+    shigthapul_one_statement(blank, LENGTH(blank), pool, LENGTH(pool), 1, true, ANSWER(answer));
     CHECK(shigthapul_is_accepted(&answer) && shigthapul_root(&answer) == 0 && shigthapul_place(&answer) == 1);
-    shigthapul_one_statement(blank, LENGTH(blank), pool, LENGTH(pool), 3, ANSWER(answer));
+    shigthapul_one_statement(blank, LENGTH(blank), pool, LENGTH(pool), 3, true, ANSWER(answer));
     CHECK(shigthapul_refusal(&answer) == SHIGTHAPUL_REFUSED_BAD_START && shigthapul_place(&answer) == 0);
+}
+
+/* By each function, a call from place 1 on that `a` closes: accepted in the old mode, and refused in strict mode. */
+static void test_modes(void) {
+    const uint16_t script[] = {A, A, OPEN, A, A, END};
+    struct shigthapul_answer old, strict;
+    shigthapul_one_expression(script, LENGTH(script), pool, LENGTH(pool), 1, false, ANSWER(old));
+    shigthapul_one_expression(script, LENGTH(script), pool, LENGTH(pool), 1, true, ANSWER(strict));
+    CHECK(shigthapul_is_accepted(&old) && shigthapul_place(&old) == 4);
+    CHECK(shigthapul_refusal(&strict) == SHIGTHAPUL_REFUSED_WRONG_SIGN && shigthapul_place(&strict) == 3);
+    shigthapul_one_statement(script, LENGTH(script), pool, LENGTH(pool), 1, false, ANSWER(old));
+    shigthapul_one_statement(script, LENGTH(script), pool, LENGTH(pool), 1, true, ANSWER(strict));
+    CHECK(shigthapul_is_accepted(&old) && shigthapul_place(&old) == 4);
+    CHECK(shigthapul_refusal(&strict) == SHIGTHAPUL_REFUSED_WRONG_SIGN && shigthapul_place(&strict) == 3);
+    shigthapul_whole_script(script, LENGTH(script), pool, LENGTH(pool), false, ANSWER(old));
+    shigthapul_whole_script(script, LENGTH(script), pool, LENGTH(pool), true, ANSWER(strict));
+    CHECK(shigthapul_is_accepted(&old) && shigthapul_place(&old) == 5);
+    CHECK(shigthapul_refusal(&strict) == SHIGTHAPUL_REFUSED_WRONG_SIGN && shigthapul_place(&strict) == 3);
 }
 
 static void test_file(void) {
@@ -105,13 +123,13 @@ static void test_numbers(void) {
     CHECK(shigthapul_word(SHIGTHAPUL_CLASS_KEYWORD, SHIGTHAPUL_KAsync) == 0x091B);
     CHECK(strcmp(shigthapul_symbol_text(SHIGTHAPUL_SImpl), "=>") == 0);
     CHECK(strcmp(shigthapul_kind_text(SHIGTHAPUL_KIND_FOREACH), "foreach") == 0);
-    CHECK(strcmp(shigthapul_refusal_text(7), "?") == 0);
+    CHECK(strcmp(shigthapul_refusal_text(7), "?") == 0 && strcmp(shigthapul_refusal_text(31), "?") == 0);
 }
 
 static void test_short_answer(void) {
     const uint16_t empty[] = {END};
     uint64_t words[] = {9, 9, 9};
-    shigthapul_whole_script(empty, LENGTH(empty), pool, LENGTH(pool), words, 2);
+    shigthapul_whole_script(empty, LENGTH(empty), pool, LENGTH(pool), true, words, 2);
     CHECK(words[0] == 0 && words[1] == 1 && words[2] == 9);
 }
 
@@ -119,6 +137,7 @@ int main(void) {
     test_expression();
     test_refusal();
     test_statement();
+    test_modes();
     test_file();
     test_text();
     test_numbers();

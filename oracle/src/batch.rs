@@ -1,11 +1,12 @@
 //! The streams that programs in other languages share with the oracle: cases and answers.
-use crate::model::{self, Entry, Row, MOST_ROWS, ROW};
+use crate::model::{self, Entry, Mode, Row, MOST_ROWS, ROW};
 use std::io::{self, Read, Write};
 
-/// One question: which entry, from where, with how large a pool, over which words.
+/// One question: which entry, in which mode, from where, with how large a pool, over which words.
 #[derive(Clone, Debug)]
 pub struct Case {
     pub entry: Entry,
+    pub mode: Mode,
     pub start: usize,
     pub pool: usize,
     pub tokens: Vec<u16>,
@@ -20,12 +21,31 @@ pub struct Answer {
 }
 
 impl Case {
+    /// A question in the old mode.
+    pub fn old(entry: Entry, start: usize, pool: usize, tokens: Vec<u16>) -> Case {
+        Case { entry, mode: Mode::Old, start, pool, tokens }
+    }
+
+    /// The same question in another mode.
+    pub fn by(self, mode: Mode) -> Case {
+        Case { mode, ..self }
+    }
+
+    /// The place where reading begins.
+    pub fn first_place(&self) -> usize {
+        if self.entry == Entry::Script {
+            0
+        } else {
+            self.start
+        }
+    }
+
     /// The model's answer, read into a pool that is full of other words at first.
     pub fn answer(&self) -> Answer {
         // Words behind the last possible row are only zeroed, so a few of them are enough.
         let length = self.pool.min((MOST_ROWS + 1) * ROW);
         let mut pool = vec![u32::MAX; length];
-        let words = model::read(self.entry, self.start, &self.tokens, &mut pool);
+        let words = model::read(self.entry, self.mode, self.start, &self.tokens, &mut pool);
         let used = used_words(&words);
         let clean = pool[used..].iter().all(|&word| word == 0) as u32;
         pool.truncate(used);
@@ -58,13 +78,24 @@ fn used_words(words: &[u32; 4]) -> usize {
     }
 }
 
-fn entry_of(number: u16) -> io::Result<Entry> {
-    match number {
-        0 => Ok(Entry::Expression),
-        1 => Ok(Entry::Statement),
-        2 => Ok(Entry::Script),
-        _ => Err(malformed("a case has an entry above 2")),
-    }
+/// The entries by number, first in the old mode and then in strict mode.
+const ENTRIES: [(Entry, Mode); 6] = [
+    (Entry::Expression, Mode::Old),
+    (Entry::Statement, Mode::Old),
+    (Entry::Script, Mode::Old),
+    (Entry::Expression, Mode::Strict),
+    (Entry::Statement, Mode::Strict),
+    (Entry::Script, Mode::Strict),
+];
+
+fn entry_of(number: u16) -> io::Result<(Entry, Mode)> {
+    let found = ENTRIES.get(number as usize).copied();
+    found.ok_or_else(|| malformed("a case has an entry above 5"))
+}
+
+fn number_of(case: &Case) -> u16 {
+    let found = ENTRIES.iter().position(|&entry| entry == (case.entry, case.mode));
+    found.expect("each entry is there in each mode") as u16
 }
 
 fn malformed(what: &str) -> io::Error {
@@ -110,18 +141,15 @@ pub fn read_case(from: &mut impl Read) -> io::Result<Option<Case>> {
     }
     let head = halves(&head);
     let tokens = halves(&fill_rest(from, head[4] as usize * 2)?);
-    Ok(Some(Case {
-        entry: entry_of(head[0])?,
-        start: head[1] as usize,
-        pool: head[2] as usize | (head[3] as usize) << 16,
-        tokens,
-    }))
+    let (entry, mode) = entry_of(head[0])?;
+    let pool = head[2] as usize | (head[3] as usize) << 16;
+    Ok(Some(Case { entry, mode, start: head[1] as usize, pool, tokens }))
 }
 
 pub fn write_case(to: &mut impl Write, case: &Case) -> io::Result<()> {
     let pool = case.pool as u32;
     let count = u16::try_from(case.tokens.len()).map_err(|_| malformed("too many tokens"))?;
-    let head = [case.entry as u16, case.start as u16, pool as u16, (pool >> 16) as u16, count];
+    let head = [number_of(case), case.start as u16, pool as u16, (pool >> 16) as u16, count];
     for word in head.iter().chain(&case.tokens) {
         to.write_all(&word.to_le_bytes())?;
     }
@@ -157,7 +185,7 @@ mod tests {
 
     fn sample() -> Case {
         let tokens = vec![IDENTIFIER, PLUS, IDENTIFIER, EOF];
-        Case { entry: Entry::Expression, start: 0, pool: 0x1_0003, tokens }
+        Case::old(Entry::Expression, 0, 0x1_0003, tokens)
     }
 
     #[test]
@@ -167,6 +195,20 @@ mod tests {
         let back = read_case(&mut &bytes[..]).unwrap().unwrap();
         assert_eq!((back.pool, back.tokens), (0x1_0003, sample().tokens));
         assert!(read_case(&mut &bytes[..bytes.len() - 1]).is_err());
+    }
+
+    #[test]
+    fn every_entry_comes_back_by_its_number() {
+        for number in 0..6u16 {
+            let (entry, mode) = entry_of(number).unwrap();
+            let mut bytes = vec![];
+            write_case(&mut bytes, &Case { entry, mode, ..sample() }).unwrap();
+            assert_eq!(bytes[..2], number.to_le_bytes());
+            let back = read_case(&mut &bytes[..]).unwrap().unwrap();
+            assert_eq!((back.entry, back.mode), (entry, mode));
+            assert_eq!((entry as u16, mode as u16), (number % 3, number / 3));
+        }
+        assert!(entry_of(6).is_err());
     }
 
     #[test]

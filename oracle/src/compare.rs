@@ -1,6 +1,6 @@
 //! Compares a stream of answers from another program with the model's, case by case.
 use crate::batch::{self, Answer, Case};
-use crate::model::{Entry, Row};
+use crate::model::{Entry, Mode, Row};
 use crate::text;
 use std::io::{self, Read};
 
@@ -45,7 +45,8 @@ pub fn letter(entry: Entry) -> char {
 /// A case for people, its tokens in the text form.
 pub fn describe(case: &Case) -> String {
     format!(
-        "{} start {}, pool {} words, {} tokens: {}",
+        "{}{} start {}, pool {} words, {} tokens: {}",
+        if case.mode == Mode::Strict { "strict " } else { "" },
         letter(case.entry),
         case.start,
         case.pool,
@@ -90,7 +91,7 @@ mod tests {
     /// A batch, and the model's answers with `change` made to one of them.
     fn streams(change: impl Fn(&mut Answer)) -> (Vec<u8>, Vec<u8>) {
         let (mut batch, mut answers) = (vec![], vec![]);
-        let wish = Wish { kind: Kind::Valid, seed: 3, count: Some(40), scarce: false };
+        let wish = Wish { count: Some(40), ..Wish::of(Kind::Valid, 3) };
         for (number, case) in cases(&wish).enumerate() {
             batch::write_case(&mut batch, &case).unwrap();
             let mut answer = case.answer();

@@ -2,12 +2,16 @@
 use crate::batch::{Answer, Case};
 use crate::gen;
 use crate::judge::difference;
-use crate::model::{Entry, MOST_ROWS, ROW};
+use crate::model::{Entry, Mode, MOST_ROWS, ROW};
 use crate::words::*;
 use crate::{compare, text, tree};
 use std::io;
 
 const TABLE: &str = include_str!("../examples.txt");
+const MODES: &str = include_str!("../modes.txt");
+
+/// Stands in the table of modes for the answer of the old mode.
+const SAME: &str = "same";
 
 /// A case and what is to come of it: `no NUMBER PLACE`, or `ok PLACE` with or without a tree.
 pub struct Example {
@@ -17,18 +21,36 @@ pub struct Example {
 
 /// The table's examples and the long ones.
 pub fn all() -> io::Result<Vec<Example>> {
-    let lines: Vec<&str> =
-        TABLE.lines().filter(|line| !line.starts_with('#') && !line.trim().is_empty()).collect();
-    let heads = lines.chunks(2).map(|pair| pair[0].split_once(' ').unwrap_or((pair[0], "")));
-    let texts: Vec<&str> = heads.clone().map(|(_, text)| text).collect();
-    let arrays = text::to_words(&texts.join("\n"))?;
     let mut examples = vec![];
-    for (((head, _), pair), tokens) in heads.zip(lines.chunks(2)).zip(arrays) {
-        let expected = pair[1].trim().to_string();
-        examples.push(Example { case: case(head, tokens), expected });
+    for (case, lines) in cases(TABLE, 2)? {
+        examples.push(Example { case, expected: lines[1].into() });
     }
     examples.extend(long());
     Ok(examples)
+}
+
+/// The examples of the table of modes, each in the old mode and then in strict mode.
+pub fn modes() -> io::Result<Vec<Example>> {
+    let mut examples = vec![];
+    for (case, lines) in cases(MODES, 3)? {
+        let strict = if lines[2] == SAME { lines[1] } else { lines[2] };
+        examples.push(Example { case: case.clone(), expected: lines[1].into() });
+        examples.push(Example { case: case.by(Mode::Strict), expected: strict.into() });
+    }
+    Ok(examples)
+}
+
+/// The cases of a table, each with its lines, of which there are `size`: the first has the entry and
+/// the tokens, the others the answers.
+fn cases(table: &str, size: usize) -> io::Result<Vec<(Case, Vec<&str>)>> {
+    let texts = table.lines().map(str::trim);
+    let lines: Vec<&str> =
+        texts.filter(|line| !line.starts_with('#') && !line.is_empty()).collect();
+    let heads = lines.chunks(size).map(|part| part[0].split_once(' ').unwrap_or((part[0], "")));
+    let texts: Vec<&str> = heads.clone().map(|(_, text)| text).collect();
+    let arrays = text::to_words(&texts.join("\n"))?;
+    let cases = heads.zip(arrays).map(|((head, _), tokens)| case(head, tokens));
+    Ok(cases.zip(lines.chunks(size).map(<[&str]>::to_vec)).collect())
 }
 
 /// A case from an entry's letter, with a number of rows behind a stroke if they are few.
@@ -36,7 +58,7 @@ fn case(head: &str, tokens: Vec<u16>) -> Case {
     let (letter, rows) = head.split_once('/').unwrap_or((head, ""));
     let entry = entry(letter).expect("the table's entries are X, S and W");
     let pool = rows.parse().map_or(gen::enough(&tokens), |rows: usize| rows * ROW);
-    Case { entry, start: 0, pool, tokens }
+    Case::old(entry, 0, pool, tokens)
 }
 
 /// The entry of a letter.
@@ -115,9 +137,9 @@ mod tests {
     #[test]
     fn every_example_holds() {
         crate::on_large_stack(|| {
-            let examples = all().unwrap();
-            assert!(examples.len() > 60);
-            for example in examples {
+            let (examples, modes) = (all().unwrap(), modes().unwrap());
+            assert!(examples.len() > 60 && modes.len() > 40);
+            for example in examples.into_iter().chain(modes) {
                 if let Some(Err(what)) = check(&example) {
                     panic!("{}", what);
                 }

@@ -69,7 +69,7 @@ pub fn outline(file: &[u8]) -> String {
         Err((number, place)) => format!("no {} {}\n", number, place),
         Ok(tokens) => {
             let pool = MOST_ROWS * ROW;
-            lines(&Case { entry: Entry::Script, start: 0, pool, tokens }.answer())
+            lines(&Case::old(Entry::Script, 0, pool, tokens).answer())
         }
     }
 }

@@ -3,12 +3,13 @@ mod chains;
 mod damage;
 mod grammar;
 mod limits;
+mod loose;
 mod nesting;
 mod rng;
 pub mod token_files;
 
 use crate::batch::Case;
-use crate::model::{Entry, ROW};
+use crate::model::{Entry, Mode, NO_ROW, ROW};
 use crate::words::{self, EOF};
 use rng::Rng;
 
@@ -22,6 +23,7 @@ pub enum Kind {
     Short,
     Valid,
     Damaged,
+    Loose,
     Noise,
     Chains,
     Nesting,
@@ -30,10 +32,11 @@ pub enum Kind {
 }
 
 /// The kinds by name.
-pub const KINDS: [(&str, Kind); 8] = [
+pub const KINDS: [(&str, Kind); 9] = [
     ("short", Kind::Short),
     ("valid", Kind::Valid),
     ("damaged", Kind::Damaged),
+    ("loose", Kind::Loose),
     ("noise", Kind::Noise),
     ("chains", Kind::Chains),
     ("nesting", Kind::Nesting),
@@ -41,12 +44,29 @@ pub const KINDS: [(&str, Kind); 8] = [
     ("mixed", Kind::Mixed),
 ];
 
-/// What to generate: the kind, the seed, how many (None: all or 10,000), and how many rows.
+/// How many rows a case gets: plenty; as many as it needs or fewer; or just that many or one less.
+#[derive(Clone, Copy, Debug, PartialEq)]
+pub enum Rows {
+    Plenty,
+    Scarce,
+    Edge,
+}
+
+/// What to generate: the kind, the seed, how many (None: all or 10,000), how many rows, and the mode.
+#[derive(Clone, Copy)]
 pub struct Wish {
     pub kind: Kind,
     pub seed: u64,
     pub count: Option<usize>,
-    pub scarce: bool,
+    pub rows: Rows,
+    pub mode: Mode,
+}
+
+impl Wish {
+    /// All cases of a kind or 10,000, with plenty of rows, in the old mode.
+    pub fn of(kind: Kind, seed: u64) -> Wish {
+        Wish { kind, seed, count: None, rows: Rows::Plenty, mode: Mode::Old }
+    }
 }
 
 /// The cases of a wish, one after the other.
@@ -56,12 +76,13 @@ pub fn cases(wish: &Wish) -> Box<dyn Iterator<Item = Case>> {
         kind => random(kind, wish.seed),
     };
     let many = if wish.kind == Kind::Short { usize::MAX } else { 10_000 };
-    let taken = plenty.take(wish.count.unwrap_or(many));
-    if !wish.scarce {
-        return Box::new(taken);
+    let (mode, mut rng) = (wish.mode, Rng::new(!wish.seed));
+    let taken = plenty.take(wish.count.unwrap_or(many)).map(move |case| case.by(mode));
+    match wish.rows {
+        Rows::Plenty => Box::new(taken),
+        Rows::Scarce => Box::new(taken.map(move |case| with_few_rows(&mut rng, case))),
+        Rows::Edge => Box::new(taken.map(move |case| at_the_edge(&mut rng, case))),
     }
-    let mut rng = Rng::new(!wish.seed);
-    Box::new(taken.map(move |case| with_few_rows(&mut rng, case)))
 }
 
 /// Every array of up to three valid words and EOF, for each entry.
@@ -76,7 +97,7 @@ fn shorts() -> Box<dyn Iterator<Item = Case>> {
 
 /// An array from its first token on, with plenty of rows.
 fn by_each_entry(tokens: &[u16]) -> [Case; 3] {
-    ENTRIES.map(|entry| Case { entry, start: 0, pool: enough(tokens), tokens: tokens.to_vec() })
+    ENTRIES.map(|entry| Case::old(entry, 0, enough(tokens), tokens.to_vec()))
 }
 
 /// The array of `length` words whose digits spell `index`, and EOF.
@@ -133,7 +154,7 @@ impl Maker {
         }
         tokens.extend(body);
         tokens.push(EOF);
-        let mut case = Case { entry, start, pool: 0, tokens };
+        let mut case = Case::old(entry, start, 0, tokens);
         if kind == Kind::Limits {
             self.overstep(&mut case);
         }
@@ -146,8 +167,15 @@ impl Maker {
         if kind != Kind::Mixed {
             return kind;
         }
-        let kinds =
-            [Kind::Valid, Kind::Damaged, Kind::Noise, Kind::Chains, Kind::Nesting, Kind::Limits];
+        let kinds = [
+            Kind::Valid,
+            Kind::Damaged,
+            Kind::Loose,
+            Kind::Noise,
+            Kind::Chains,
+            Kind::Nesting,
+            Kind::Limits,
+        ];
         self.rng.pick(&kinds)
     }
 
@@ -166,6 +194,7 @@ impl Maker {
                 damage::damage(&mut self.rng, &mut words, &self.all);
                 words
             }
+            Kind::Loose => loose::text(&mut self.rng, entry, &self.all),
             _ => grammar::text(&mut self.rng, entry),
         }
     }
@@ -202,9 +231,25 @@ fn with_few_rows(rng: &mut Rng, case: Case) -> Case {
     Case { pool: rows * ROW + rng.below(ROW), ..case }
 }
 
+/// The same case with the fewest rows that don't run out, or one less.
+fn at_the_edge(rng: &mut Rng, case: Case) -> Case {
+    let with = |rows: usize| Case { pool: rows * ROW, ..case.clone() };
+    let (mut least, mut most) = (0, case.pool / ROW);
+    while least < most {
+        let rows = (least + most) / 2;
+        if with(rows).answer().words[0] == NO_ROW {
+            least = rows + 1;
+        } else {
+            most = rows;
+        }
+    }
+    with(least.saturating_sub(rng.below(2)))
+}
+
 #[cfg(test)]
 mod tests {
     use super::*;
+    use crate::model::WRONG_SIGN;
 
     #[test]
     fn shorts_are_all_there() {
@@ -215,7 +260,7 @@ mod tests {
     #[test]
     fn a_seed_gives_the_same_cases() {
         for (_, kind) in KINDS {
-            let wish = Wish { kind, seed: 7, count: Some(50), scarce: true };
+            let wish = Wish { count: Some(50), rows: Rows::Scarce, ..Wish::of(kind, 7) };
             let words = || cases(&wish).map(|case| case.tokens).collect::<Vec<_>>();
             assert_eq!(words(), words());
         }
@@ -223,7 +268,7 @@ mod tests {
 
     #[test]
     fn a_case_needs_just_the_rows_it_uses() {
-        let wish = Wish { kind: Kind::Valid, seed: 5, count: Some(100), scarce: false };
+        let wish = Wish { count: Some(100), ..Wish::of(Kind::Valid, 5) };
         for case in cases(&wish) {
             let plenty = case.answer();
             if plenty.words[0] != 0 || plenty.words[2] == 0 {
@@ -237,8 +282,39 @@ mod tests {
     }
 
     #[test]
+    fn at_the_edge_one_row_decides() {
+        for mode in [Mode::Old, Mode::Strict] {
+            let wish =
+                Wish { count: Some(200), rows: Rows::Edge, mode, ..Wish::of(Kind::Loose, 6) };
+            let mut starved = 0;
+            for case in cases(&wish) {
+                let number = |rows| Case { pool: rows * ROW, ..case.clone() }.answer().words[0];
+                let rows = case.pool / ROW;
+                if number(rows) == NO_ROW {
+                    assert_ne!(number(rows + 1), NO_ROW);
+                    starved += 1;
+                } else {
+                    assert!(rows == 0 || number(rows - 1) == NO_ROW);
+                }
+            }
+            assert!((50..150).contains(&starved), "{} of 200", starved);
+        }
+    }
+
+    #[test]
+    fn most_loose_texts_lack_a_sign_in_strict_mode_only() {
+        let wish = Wish { count: Some(2000), ..Wish::of(Kind::Loose, 1) };
+        let lacking = |mode| {
+            let cases = cases(&Wish { mode, ..wish });
+            cases.filter(|case| case.answer().words[0] == WRONG_SIGN).count()
+        };
+        assert_eq!(lacking(Mode::Old), 0);
+        assert!(lacking(Mode::Strict) > 1400, "{} of 2000", lacking(Mode::Strict));
+    }
+
+    #[test]
     fn most_valid_texts_are_accepted() {
-        let wish = Wish { kind: Kind::Valid, seed: 1, count: Some(2000), scarce: false };
+        let wish = Wish { count: Some(2000), ..Wish::of(Kind::Valid, 1) };
         let accepted = cases(&wish).filter(|case| case.answer().words[0] == 0).count();
         assert!(accepted > 1600, "{} of 2000", accepted);
     }

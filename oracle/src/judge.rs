@@ -3,19 +3,30 @@ use crate::batch::{Answer, Case};
 use crate::compare::summary;
 use crate::gen;
 use crate::kinds;
-use crate::model::{Row, CHILDREN, ROW};
+use crate::model::{Mode, Row, CHILDREN, NO_ROW, ROW, WRONG_SIGN};
 use crate::original::{self, Outcome, UNKNOWN};
 use crate::places;
+use crate::signs;
 
 /// The refusals that the original doesn't know.
-pub const OURS: [u32; 4] = [1, 2, 3, 4];
+pub const OURS: [u32; 5] = [1, 2, 3, 4, WRONG_SIGN];
 
-/// The refusal for want of a row.
-const NO_ROW: u32 = 3;
+/// Whether the original can't give an answer with this number. In the old mode no sign is wrong.
+fn is_ours(case: &Case, number: u32) -> bool {
+    OURS.contains(&number) && (number != WRONG_SIGN || case.mode == Mode::Strict)
+}
 
-/// Whether model and original differ, with both answers; None where only the model can answer.
+/// Whether model and original differ, with both answers; None where only the model can answer. In
+/// strict mode the answer is first held to the model's in the old mode.
 pub fn difference(case: &Case, answer: &Answer) -> Option<Result<(), String>> {
-    if OURS.contains(&answer.words[0]) {
+    if case.mode == Mode::Strict {
+        let old = case.clone().by(Mode::Old).answer();
+        if let Some(what) = unlike_old(case, answer, &old) {
+            let told = format!("strict {}, old {}: {}", summary(answer), summary(&old), what);
+            return Some(Err(told));
+        }
+    }
+    if is_ours(case, answer.words[0]) {
         return None;
     }
     let outcome = original::run(case);
@@ -53,6 +64,32 @@ fn starves(case: &Case, place: u32, whole: &Answer) -> bool {
     }
 }
 
+/// In what a strict answer doesn't go with that of the old mode: it must be the same, or a refusal
+/// for a wrong sign where the old mode goes on. Where that accepts, the brackets tell which.
+fn unlike_old(case: &Case, answer: &Answer, old: &Answer) -> Option<&'static str> {
+    let (accepted, end) = ends(old);
+    let refused = answer.words[0] == WRONG_SIGN;
+    if !refused && answer != old {
+        return Some("neither the same nor a wrong sign");
+    }
+    let place = answer.words[1];
+    if refused && !(place < end && signs::may_be_missing(case, place as usize)) {
+        return Some("no sign is missing there");
+    }
+    if accepted && refused == signs::are_there(case, old) {
+        return Some("the brackets say otherwise");
+    }
+    None
+}
+
+/// Whether an answer is an acceptance, and the place where reading ended.
+fn ends(answer: &Answer) -> (bool, u32) {
+    match answer.words {
+        [0, _, _, end] => (true, end),
+        [_, end, ..] => (false, end),
+    }
+}
+
 /// The first thing in which the original's answer isn't the model's.
 fn unlike(answer: &Answer, outcome: &Outcome) -> Option<String> {
     if answer.words != outcome.words() {
@@ -84,7 +121,7 @@ mod tests {
     /// A statement with plenty of rows.
     fn case(text: &str) -> Case {
         let tokens = text::to_words(text).unwrap().concat();
-        Case { entry: Entry::Statement, start: 0, pool: gen::enough(&tokens), tokens }
+        Case::old(Entry::Statement, 0, gen::enough(&tokens), tokens)
     }
 
     #[test]
@@ -113,10 +150,57 @@ mod tests {
         }
     }
 
+    /// What comes of a strict answer to a case, of which only the words are given.
+    fn judged(case: &Case, words: [u32; 4]) -> Option<Result<(), String>> {
+        let strict = case.clone().by(Mode::Strict);
+        difference(&strict, &Answer { words, clean: 1, rows: vec![] })
+    }
+
+    #[test]
+    fn a_strict_answer_is_the_old_one_or_a_wrong_sign() {
+        for text in ["f ( a ) ;", "while ( a ) { }", "f ( a , )", "while ( a b", "_EOF a"] {
+            let case = case(text);
+            let verdict = difference(&case.clone().by(Mode::Strict), &case.answer());
+            assert_eq!(verdict.unwrap_or(Ok(())), Ok(()), "{}", text);
+            for words in [[WRONG_SIGN, 0, 0, 0], [11, 0, 0, 0], [2, 0, 0, 0]] {
+                assert!(judged(&case, words).unwrap().is_err(), "{} {:?}", text, words);
+            }
+        }
+    }
+
+    #[test]
+    fn a_wrong_sign_must_be_refused_where_the_old_mode_goes_on() {
+        let texts = [("f ( a b", 2), ("while ( a ) b }", 3), ("while ( a ) { f ( a } }", 7)];
+        for (text, place) in texts {
+            let case = case(text);
+            assert_eq!(judged(&case, [WRONG_SIGN, place, 0, 0]), None);
+            let accepted = case.answer();
+            assert!(difference(&case.clone().by(Mode::Strict), &accepted).unwrap().is_err());
+            let end = accepted.words[3];
+            for place in [0, end, end + 1] {
+                let verdict = judged(&case, [WRONG_SIGN, place, 0, 0]);
+                assert!(verdict.unwrap().is_err(), "{} at {}", text, place);
+            }
+        }
+        let old = Answer { words: [WRONG_SIGN, 2, 0, 0], clean: 1, rows: vec![] };
+        assert!(difference(&case("f ( a b"), &old).unwrap().is_err());
+        // In a group the old mode doesn't go on either.
+        assert!(judged(&case("( a b"), [WRONG_SIGN, 1, 0, 0]).unwrap().is_err());
+    }
+
+    #[test]
+    fn two_wrong_signs_can_make_brackets_that_nest() {
+        let case = case("try { f ( a { ; } catch e { } finally ) b }");
+        assert_eq!(judged(&case, [WRONG_SIGN, 4, 0, 0]), None);
+        let (strict, old) = (case.clone().by(Mode::Strict), case.answer());
+        assert_eq!(old.words[0], 0);
+        assert!(difference(&strict, &old).unwrap().is_err());
+    }
+
     /// `a + b` with so many rows of the three that it takes.
     fn sum(rows: usize) -> Case {
         let tokens = vec![IDENTIFIER, PLUS, IDENTIFIER, EOF];
-        Case { entry: Entry::Expression, start: 0, pool: rows * ROW, tokens }
+        Case::old(Entry::Expression, 0, rows * ROW, tokens)
     }
 
     #[test]

@@ -14,6 +14,7 @@ mod places;
 mod record;
 mod selfcheck;
 mod show;
+mod signs;
 mod text;
 mod tree;
 mod words;
@@ -27,9 +28,11 @@ use std::path::Path;
 use std::process::ExitCode;
 
 const USAGE: &str = "commands:
-  gen KIND [--seed N] [--count N] [--rows plenty|scarce]   a batch of cases on standard output
-      (kinds: short valid damaged noise chains nesting limits mixed)
-  gen examples               a batch of the worked examples
+  gen KIND [--seed N] [--count N] [--rows plenty|scarce|edge] [--mode old|strict]
+                             a batch of cases on standard output
+      (kinds: short valid damaged loose noise chains nesting limits mixed)
+  gen examples [--mode old|strict]   a batch of the worked examples
+  gen modes --mode old|strict        a batch of those that are there with both modes' answers
   record [--every N] [--most BYTES]   the cases of the batch on standard input, each with its answer
       (one of every N cases; no records of more than so many bytes; stops where model and original
       differ, and prints on standard error how many answers both give)
@@ -38,7 +41,7 @@ const USAGE: &str = "commands:
   answer                     the model's answers to the batch on standard input
   compare ANSWERS            compares a file of answers with the model's, batch on standard input
   selfcheck [--seed N]       compares model and original on every kind of case
-  show X|S|W [--start N] [--rows N] TEXT   one case by model and original, for people
+  show X|S|W [--mode old|strict] [--start N] [--rows N] TEXT   one case by model and original, for people
       (X one expression, S one statement, W the whole script; TEXT as tools/tokens has it)";
 
 fn main() -> ExitCode {
@@ -71,9 +74,14 @@ fn run(arguments: &[String]) -> io::Result<bool> {
     let command = arguments.first().map_or("", String::as_str);
     let rest = arguments.get(1..).unwrap_or(&[]);
     match (command, rest) {
-        ("gen", [kind]) if kind == "examples" => {
-            let examples = examples::all()?;
-            generate(examples.into_iter().map(|example| example.case))
+        ("gen", [kind]) if kind == "examples" => generate(cases_of(examples::all()?)),
+        ("gen", [kind, option, name]) if kind == "examples" && option == "--mode" => {
+            let by = mode(name)?;
+            generate(cases_of(examples::all()?).map(|case| case.by(by)))
+        }
+        ("gen", [kind, option, name]) if kind == "modes" && option == "--mode" => {
+            let by = mode(name)?;
+            generate(cases_of(examples::modes()?).filter(|case| case.mode == by))
         }
         ("gen", rest) if !rest.is_empty() => generate(gen::cases(&wish(rest)?)),
         ("record", rest) => {
@@ -116,18 +124,37 @@ fn number<T: std::str::FromStr>(option: &str, value: &str) -> io::Result<T> {
     value.parse().map_err(|_| wrong(format!("{} wants a number, not {}", option, value)))
 }
 
+/// The mode of a name.
+fn mode(name: &str) -> io::Result<model::Mode> {
+    match name {
+        "old" => Ok(model::Mode::Old),
+        "strict" => Ok(model::Mode::Strict),
+        _ => Err(wrong(format!("no mode {}", name))),
+    }
+}
+
+/// How many rows, by name.
+fn rows(name: &str) -> io::Result<gen::Rows> {
+    match name {
+        "plenty" => Ok(gen::Rows::Plenty),
+        "scarce" => Ok(gen::Rows::Scarce),
+        "edge" => Ok(gen::Rows::Edge),
+        _ => Err(wrong(format!("no rows {}", name))),
+    }
+}
+
 /// Reads the kind and the options of `gen`.
 fn wish(arguments: &[String]) -> io::Result<gen::Wish> {
     let name = &arguments[0];
     let found = gen::KINDS.iter().find(|(known, _)| known == name);
     let (_, kind) = *found.ok_or_else(|| wrong(format!("no kind {}", name)))?;
-    let mut wish = gen::Wish { kind, seed: 1, count: None, scarce: false };
+    let mut wish = gen::Wish::of(kind, 1);
     for pair in arguments[1..].chunks(2) {
         match pair {
             [option, value] if option == "--seed" => wish.seed = number(option, value)?,
             [option, value] if option == "--count" => wish.count = Some(number(option, value)?),
-            [option, value] if option == "--rows" && value == "plenty" => wish.scarce = false,
-            [option, value] if option == "--rows" && value == "scarce" => wish.scarce = true,
+            [option, value] if option == "--rows" => wish.rows = rows(value)?,
+            [option, value] if option == "--mode" => wish.mode = mode(value)?,
             _ => return Err(wrong(format!("unknown option {}\n{}", pair.join(" "), USAGE))),
         }
     }
@@ -154,18 +181,24 @@ fn choice(arguments: &[String]) -> io::Result<record::Choice> {
 fn shown(arguments: &[String]) -> io::Result<batch::Case> {
     let entry = examples::entry(&arguments[0]).ok_or_else(|| wrong(USAGE.into()))?;
     let mut rest = &arguments[1..];
-    let (mut start, mut rows) = (0, None);
+    let (mut start, mut rows, mut by) = (0, None, model::Mode::Old);
     while let [option, value, others @ ..] = rest {
         match option.as_str() {
             "--start" => start = number(option, value)?,
             "--rows" => rows = Some(number(option, value)?),
+            "--mode" => by = mode(value)?,
             _ => break,
         }
         rest = others;
     }
     let tokens = text::to_words(&rest.join(" "))?.concat();
     let pool = rows.map_or(gen::enough(&tokens), |rows: usize| rows * model::ROW);
-    Ok(batch::Case { entry, start, pool, tokens })
+    Ok(batch::Case { entry, mode: by, start, pool, tokens })
+}
+
+/// The cases of some examples.
+fn cases_of(examples: Vec<examples::Example>) -> impl Iterator<Item = batch::Case> {
+    examples.into_iter().map(|example| example.case)
 }
 
 fn generate(cases: impl Iterator<Item = batch::Case>) -> io::Result<bool> {

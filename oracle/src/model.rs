@@ -24,23 +24,41 @@ pub enum Entry {
     Script,
 }
 
+/// By which rules they read: the original's; or strict ones, by which a call with arguments needs
+/// its closer, and the bodies of while, foreach and finally their opener.
+#[derive(Clone, Copy, Debug, PartialEq)]
+pub enum Mode {
+    Old,
+    Strict,
+}
+
+/// The refusal for want of a row, and that of strict mode: a wrong opener or closer.
+pub const NO_ROW: u32 = 3;
+pub const WRONG_SIGN: u32 = 30;
+
 /// Reads `tokens` into `pool` and gives the four answer words.
-pub fn read(entry: Entry, start: usize, tokens: &[u16], pool: &mut [u32]) -> [u32; 4] {
+pub fn read(entry: Entry, mode: Mode, start: usize, tokens: &[u16], pool: &mut [u32]) -> [u32; 4] {
     pool.fill(0);
-    let answer = read_into(entry, start, tokens, pool);
+    let answer = read_into(entry, mode, start, tokens, pool);
     answer.unwrap_or_else(|refusal| {
         pool.fill(0);
         [refusal.number, refusal.place, 0, 0]
     })
 }
 
-fn read_into(entry: Entry, start: usize, tokens: &[u16], pool: &mut [u32]) -> Read<[u32; 4]> {
+fn read_into(
+    entry: Entry,
+    mode: Mode,
+    start: usize,
+    tokens: &[u16],
+    pool: &mut [u32],
+) -> Read<[u32; 4]> {
     check_array(tokens)?;
     let from = if entry == Entry::Script { 0 } else { start };
     if from >= tokens.len() {
         return Err(Refusal { number: 4, place: 0 });
     }
-    let mut reader = Reader::new(tokens, from, pool);
+    let mut reader = Reader::new(tokens, from, mode, pool);
     let root = match entry {
         Entry::Expression => reader.parse_expression(expressions::ZERO),
         Entry::Statement => reader.parse_statement(),

@@ -58,10 +58,9 @@ impl fmt::Display for Outcome {
     }
 }
 
-/// Runs the original on a valid array; `case.start` is below its length.
+/// Runs the original, which knows one mode, on a valid array; `case.start` is below its length.
 pub fn run(case: &Case) -> Outcome {
-    let start = if case.entry == Entry::Script { 0 } else { case.start };
-    let mut parser = Parser::new_from_lexer(LexerAPI::new(&case.tokens, start));
+    let mut parser = Parser::new_from_lexer(LexerAPI::new(&case.tokens, case.first_place()));
     let mut layout = Layout::default();
     let root = match case.entry {
         Entry::Expression => parser.oracle_expression().map(|tree| layout.expression(&tree)),

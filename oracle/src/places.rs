@@ -24,8 +24,8 @@ pub fn misplaced(case: &Case, answer: &Answer) -> Option<String> {
     // A script's root is placed at 0 without an opener there.
     let script = case.entry == Entry::Script;
     let read = &rows[..rows.len() - if script { ROW } else { 0 }];
-    let from = if script { 0 } else { case.start };
-    let grouped = groups::fit(tokens, read, &leftmost, from, answer.words[3] as usize);
+    let (from, to) = (case.first_place(), answer.words[3] as usize);
+    let grouped = groups::fit(tokens, read, &leftmost, from, to);
     (!grouped).then(|| "grouped marks don't fit the brackets".into())
 }
 
@@ -86,8 +86,8 @@ fn keyword_of(kind: u32) -> Option<u16> {
 }
 
 /// The blocks of a statement: the child slot, the token before the block (EOF: any), and
-/// whether its opener must be a brace.
-fn blocks_of(kind: u32) -> &'static [(usize, u16, bool)] {
+/// whether its opener must be a brace in either mode.
+pub fn blocks_of(kind: u32) -> &'static [(usize, u16, bool)] {
     match kind {
         FUNCTION => &[(1, words::RPAREN, true)],
         IF => &[(1, words::RPAREN, true), (2, words::ELSE, true)],

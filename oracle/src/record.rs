@@ -3,6 +3,8 @@
 use crate::batch::{self, Answer, Case};
 use crate::compare::describe;
 use crate::judge::{self, OURS};
+use crate::model::Mode;
+use crate::signs::Missing;
 use std::collections::BTreeMap;
 use std::fmt;
 use std::io::{self, Read, Write};
@@ -28,6 +30,9 @@ pub struct Tally {
     both: usize,
     /// The others, by number: refusals that the original doesn't know.
     alone: BTreeMap<u32, usize>,
+    /// Of all, those in strict mode; and the refusals for a wrong sign, by form.
+    strict: usize,
+    missing: Missing,
     /// Of the refusals for want of a row: with rows enough the original gives the model's answer.
     roomy: usize,
 }
@@ -76,11 +81,13 @@ impl Tally {
         answer: &Answer,
         model: impl Fn(&Case) -> Answer,
     ) -> Result<(), String> {
+        self.strict += (case.mode == Mode::Strict) as usize;
         if let Some(verdict) = judge::difference(case, answer) {
             self.both += 1;
             return verdict;
         }
         *self.alone.entry(answer.words[0]).or_default() += 1;
+        self.missing.count(case, answer);
         if let Some(verdict) = judge::difference_with_rows(case, answer, model) {
             self.roomy += 1;
             return verdict;
@@ -96,12 +103,15 @@ impl fmt::Display for Tally {
         let by_number = OURS.map(|number| format!("{}: {}", number, count(number)));
         write!(
             to,
-            "{} recorded, {} by model and original, {} by the model alone ({}), {} with rows enough",
+            "{} recorded, {} strict, {} by model and original, {} by the model alone ({}), \
+             {} with rows enough, wrong signs by form ({})",
             self.both + alone,
+            self.strict,
             self.both,
             alone,
             by_number.join(", "),
-            self.roomy
+            self.roomy,
+            self.missing
         )
     }
 }
@@ -109,7 +119,7 @@ impl fmt::Display for Tally {
 #[cfg(test)]
 mod tests {
     use super::*;
-    use crate::gen::{cases, Kind, Wish};
+    use crate::gen::{cases, Kind, Rows, Wish};
 
     fn batch_of(wish: &Wish) -> Vec<u8> {
         let mut bytes = vec![];
@@ -119,7 +129,8 @@ mod tests {
         bytes
     }
 
-    const VALID: Wish = Wish { kind: Kind::Valid, seed: 2, count: Some(30), scarce: false };
+    const VALID: Wish =
+        Wish { kind: Kind::Valid, seed: 2, count: Some(30), rows: Rows::Plenty, mode: Mode::Old };
 
     /// The sizes of the records.
     fn sizes(choice: &Choice) -> Vec<usize> {
@@ -189,7 +200,7 @@ mod tests {
 
     #[test]
     fn a_model_that_differs_only_with_rows_enough_stops_it() {
-        let few = Wish { scarce: true, ..VALID };
+        let few = Wish { rows: Rows::Scarce, ..VALID };
         let (came, _) = changed(&few, |_, _| ());
         let tally = came.unwrap();
         assert!(tally.both > 0 && tally.roomy > 0, "{}", tally);
@@ -203,7 +214,8 @@ mod tests {
 
     #[test]
     fn what_the_original_does_not_know_is_counted_by_number() {
-        let wish = Wish { kind: Kind::Mixed, seed: 3, count: Some(600), scarce: true };
+        let few = Wish { count: Some(600), rows: Rows::Scarce, ..Wish::of(Kind::Mixed, 3) };
+        let wish = Wish { mode: Mode::Strict, ..few };
         let (tally, numbers) = crate::on_large_stack(move || {
             let mut numbers = BTreeMap::new();
             for case in cases(&wish) {
@@ -213,6 +225,6 @@ mod tests {
         });
         assert!(OURS.iter().all(|number| tally.alone[number] == numbers[number]));
         assert_eq!(tally.both + tally.alone.values().sum::<usize>(), 600);
-        assert!(tally.to_string().starts_with("600 recorded, "));
+        assert!(tally.to_string().starts_with("600 recorded, 600 strict, "));
     }
 }

@@ -5,15 +5,17 @@ use crate::examples;
 use crate::gen::{self, Kind, Wish};
 use crate::judge::difference;
 use crate::kinds;
-use crate::model::ROW;
+use crate::model::{Mode, ROW};
+use crate::signs::Missing;
 use std::collections::BTreeMap;
 use std::io;
 
-/// How many cases of each kind; the exhaustive kind has all.
-const PLAN: [(Kind, Option<usize>); 7] = [
+/// How many cases of each kind in each mode; the exhaustive kind has all.
+const PLAN: [(Kind, Option<usize>); 8] = [
     (Kind::Short, None),
     (Kind::Valid, Some(80_000)),
     (Kind::Damaged, Some(120_000)),
+    (Kind::Loose, Some(80_000)),
     (Kind::Noise, Some(80_000)),
     (Kind::Chains, Some(40_000)),
     (Kind::Nesting, Some(40_000)),
@@ -31,20 +33,22 @@ struct Tally {
     before: [usize; 3],
     refusals: BTreeMap<u32, usize>,
     kinds: BTreeMap<u32, usize>,
+    missing: Missing,
 }
 
 /// Compares everything with the given seed; true if nothing differs and everything was met.
 pub fn run(seed: u64) -> io::Result<bool> {
     let mut all = Tally::default();
-    for example in examples::all()? {
+    for example in examples::all()?.into_iter().chain(examples::modes()?) {
         all.note(&example.case, examples::check(&example));
     }
     all.section("examples");
-    for (kind, count) in PLAN {
-        for case in gen::cases(&Wish { kind, seed, count, scarce: false }) {
-            all.check(&case);
+    for mode in [Mode::Old, Mode::Strict] {
+        for (kind, count) in PLAN {
+            gen::cases(&Wish { count, mode, ..Wish::of(kind, seed) })
+                .for_each(|case| all.check(&case));
+            all.section(&format!("{:?}, {:?} mode", kind, mode).to_lowercase());
         }
-        all.section(&format!("{:?}", kind).to_lowercase());
     }
     let met = all.report();
     println!("{} compared, {} differing", all.compared, all.differing);
@@ -54,7 +58,7 @@ pub fn run(seed: u64) -> io::Result<bool> {
 impl Tally {
     fn check(&mut self, case: &Case) {
         let answer = case.answer();
-        self.count(&answer);
+        self.count(case, &answer);
         self.note(case, difference(case, &answer));
     }
 
@@ -84,14 +88,15 @@ impl Tally {
         );
     }
 
-    fn count(&mut self, answer: &Answer) {
+    fn count(&mut self, case: &Case, answer: &Answer) {
         *self.refusals.entry(answer.words[0]).or_default() += 1;
+        self.missing.count(case, answer);
         for row in answer.rows.chunks(ROW) {
             *self.kinds.entry(row[0]).or_default() += 1;
         }
     }
 
-    /// Prints how often each answer and kind of row was met; false if one never was.
+    /// Prints how often each answer, form and kind of row was met; false if one never was.
     fn report(&self) -> bool {
         let list = |counts: &BTreeMap<u32, usize>| {
             let pairs: Vec<String> =
@@ -99,12 +104,14 @@ impl Tally {
             pairs.join(", ")
         };
         println!("answers by number: {}", list(&self.refusals));
+        println!("wrong signs by form: {}", self.missing);
         println!("rows by kind: {}", list(&self.kinds));
         let answers = SHARED.chain([0]).all(|n| self.refusals.contains_key(&n));
         let rows = kinds::ALL.iter().all(|kind| self.kinds.contains_key(kind));
-        if !(answers && rows) {
-            println!("not every answer and kind was met");
+        let met = answers && rows && self.missing.has_all();
+        if !met {
+            println!("not every answer, form and kind was met");
         }
-        answers && rows
+        met
     }
 }

@@ -17,14 +17,15 @@ static uint32_t lent_pool[POOL_WORDS];
 static uint8_t lent_bytes[MOST_PAYLOAD];
 static uint8_t lent_work[MOST_PAYLOAD];
 
-/* How much of it, and the answer. */
+/* How much of it, in which mode, and the answer. */
 static struct {
     size_t tokens, start, pool, bytes, work;
+    bool strict;
 } lent;
 static struct shigthapul_answer answer;
 
-typedef void from_place(const uint16_t *, size_t, uint32_t *, size_t, size_t, uint64_t *, size_t);
-typedef void from_front(const uint16_t *, size_t, uint32_t *, size_t, uint64_t *, size_t);
+typedef void from_place(const uint16_t *, size_t, uint32_t *, size_t, size_t, bool, uint64_t *, size_t);
+typedef void from_front(const uint16_t *, size_t, uint32_t *, size_t, bool, uint64_t *, size_t);
 typedef void from_file(const uint8_t *, size_t, uint16_t *, size_t, uint64_t *, size_t);
 typedef void to_work(const uint8_t *, size_t, uint8_t *, size_t, uint64_t *, size_t);
 typedef void from_work(const uint8_t *, size_t, const uint8_t *, size_t, uint64_t *, size_t);
@@ -43,11 +44,12 @@ union callee {
 static volatile union callee call;
 
 static void job_from_place(void) {
-    call.from_place(lent_tokens, lent.tokens, lent_pool, lent.pool, lent.start, answer.words, SHIGTHAPUL_ANSWER_WORDS);
+    call.from_place(lent_tokens, lent.tokens, lent_pool, lent.pool, lent.start, lent.strict, answer.words,
+                    SHIGTHAPUL_ANSWER_WORDS);
 }
 
 static void job_from_front(void) {
-    call.from_front(lent_tokens, lent.tokens, lent_pool, lent.pool, answer.words, SHIGTHAPUL_ANSWER_WORDS);
+    call.from_front(lent_tokens, lent.tokens, lent_pool, lent.pool, lent.strict, answer.words, SHIGTHAPUL_ANSWER_WORDS);
 }
 
 static void job_from_file(void) {

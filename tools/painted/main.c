@@ -1,5 +1,5 @@
 /* Measures how much stack the six functions take, and prints tables: the deepest nests of every form, mixes of them, and
-   the largest inputs. The status is 1 if a nest is not as deep as it should be. */
+   the largest inputs, in both modes. The status is 1 if a nest is not as deep as it should be. */
 #define _XOPEN_SOURCE 700
 #define _DEFAULT_SOURCE
 
@@ -8,34 +8,47 @@
 #include "patterns.h"
 #include "self_test.h"
 
+/* Prints the lines of what a function has read, in the mode that is lent. */
+static void print_read(const char *what, enum function function) {
+    char title[80];
+    snprintf(title, sizeof title, "%s, by %s%s", what, NAMES[function], mode_of(function));
+    print_lines(title);
+}
+
 static void all_expressions(void) {
     for (size_t pattern = 0; pattern < pattern_count; pattern++)
         pattern_nests(ONE_EXPRESSION, &patterns[pattern], AN_EXPRESSION, pattern_name(&patterns[pattern]));
-    print_lines("Forms of expressions, by one_expression");
+    print_read("Forms of expressions", ONE_EXPRESSION);
 }
 
 static void all_statements(enum function function) {
-    char title[80];
     for (size_t body = 0; body < COUNT(BODIES); body++)
         body_nests(function, &BODIES[body]);
-    snprintf(title, sizeof title, "Statements in statements, by %s", NAMES[function]);
-    print_lines(title);
+    print_read("Statements in statements", function);
     for (size_t taker = 0; taker < COUNT(TAKERS); taker++)
         taker_nests(function, &TAKERS[taker]);
-    snprintf(title, sizeof title, "Expressions in a statement, by %s", NAMES[function]);
-    print_lines(title);
+    print_read("Expressions in a statement", function);
     all_splits(function);
 }
 
 /* What mixes and flat inputs of a function take at most. */
 static void print_others(void) {
-    printf("\n%-60s %8s %8s\n", "By function", "mixes", "flat");
+    printf("\n%-60s %8s %8s\n", lent.strict ? "By function, strict mode" : "By function, old mode", "mixes", "flat");
     for (int function = ONE_EXPRESSION; function <= WHOLE_SCRIPT; function++) {
         size_t mixes = mix_nests((enum function)function);
         size_t flats = flat_inputs((enum function)function);
         bad_arrays((enum function)function);
         printf("%-60s %8zu %8zu\n", NAMES[function], mixes, flats);
     }
+}
+
+/* The functions that read tokens, in a mode. */
+static void all_readers(bool strict) {
+    lent.strict = strict;
+    all_expressions();
+    all_statements(ONE_STATEMENT);
+    all_statements(WHOLE_SCRIPT);
+    print_others();
 }
 
 static void print_worst(void) {
@@ -54,10 +67,8 @@ int main(int count, char **words) {
         return 1;
     if (self_only)
         return 0;
-    all_expressions();
-    all_statements(ONE_STATEMENT);
-    all_statements(WHOLE_SCRIPT);
-    print_others();
+    all_readers(false);
+    all_readers(true);
     files();
     payloads();
     print_worst();

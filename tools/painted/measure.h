@@ -7,6 +7,11 @@
 static const char *const NAMES[FUNCTIONS] = {"one_expression", "one_statement", "whole_script",
                                              "read_file",      "fold",          "text"};
 
+/* The mode that is lent, for the functions that read tokens. */
+static const char *mode_of(enum function function) {
+    return function > WHOLE_SCRIPT ? "" : lent.strict ? ", strict mode" : ", old mode";
+}
+
 static size_t larger(size_t a, size_t b) {
     return a > b ? a : b;
 }
@@ -23,8 +28,8 @@ static void fault(enum function function, const char *what, const char *name) {
     enum { SAID = 20 };
     if (faults++ >= SAID)
         return;
-    fprintf(stderr, "tools/stack: %s: %s: %s: refusal %u at %zu of %zu tokens\n", NAMES[function], what, name,
-            (unsigned)shigthapul_refusal(&answer), shigthapul_place(&answer), lent.tokens);
+    fprintf(stderr, "tools/stack: %s%s: %s: %s: refusal %u at %zu of %zu tokens\n", NAMES[function], mode_of(function),
+            what, name, (unsigned)shigthapul_refusal(&answer), shigthapul_place(&answer), lent.tokens);
 }
 
 /* Whether the answer is as expected: a refusal by its number; an acceptance, 0, up to the last token. */
@@ -42,7 +47,7 @@ static size_t measure(enum function function, const char *name, const char *how)
     calls++;
     if (bytes > worst[function].bytes || worst[function].what[0] == '\0') {
         worst[function].bytes = bytes;
-        snprintf(worst[function].what, sizeof worst[function].what, "%s%s", name, how);
+        snprintf(worst[function].what, sizeof worst[function].what, "%s%s%s", name, how, mode_of(function));
     }
     return bytes;
 }

@@ -1,13 +1,14 @@
 //! Reads a token file on standard input and prints its tree as an outline, or why it is refused.
 //!
 //! ```text
-//! outline          a line for each row, indented: kind, operator or flags, place
-//! outline --rows   the lines of the program `outline`: the answer, and the words of each row
+//! outline            a line for each row, indented: kind, operator or flags, place
+//! outline --rows     the lines of the program `outline`: the answer, and the words of each row
+//! outline --strict   the same as either, in strict mode and not in the old one
 //! ```
 //!
 //! The status is 0 where the script is accepted, 1 where it is refused, 2 where the command or its
 //! input can't be read.
-use shigthapul::{read_file, whole_script, Refusal, Tree, ROW_WORDS};
+use shigthapul::{read_file, whole_script, Mode, Refusal, Tree, ROW_WORDS};
 use std::io::{self, Read, Write};
 use std::process::ExitCode;
 
@@ -19,17 +20,25 @@ const ROWS: usize = 2_000;
 /// What was read: a tree, or a refusal.
 type Script<'a> = Result<Tree<'a>, Refusal>;
 
+/// A way to print it.
+type Print = fn(&mut dyn Write, Script) -> io::Result<()>;
+
 fn main() -> ExitCode {
     let words: Vec<String> = std::env::args().skip(1).collect();
-    let print = match words.iter().map(String::as_str).collect::<Vec<_>>()[..] {
+    let words: Vec<&str> = words.iter().map(String::as_str).collect();
+    let (mode, rest) = match words[..] {
+        ["--strict", ref rest @ ..] => (Mode::Strict, rest),
+        ref rest => (Mode::Old, rest),
+    };
+    let print = match rest {
         [] => print_outline,
         ["--rows"] => print_rows,
         _ => {
-            eprintln!("usage: outline [--rows] < FILE.tok");
+            eprintln!("usage: outline [--strict] [--rows] < FILE.tok");
             return ExitCode::from(2);
         }
     };
-    match outline(print) {
+    match outline(mode, print) {
         Ok(accepted) => ExitCode::from(u8::from(!accepted)),
         Err(error) => {
             eprintln!("outline: {}", error);
@@ -39,21 +48,17 @@ fn main() -> ExitCode {
 }
 
 /// Reads the file and prints what comes of it; says whether it was accepted.
-fn outline(print: fn(&mut dyn Write, Script) -> io::Result<()>) -> io::Result<bool> {
+fn outline(mode: Mode, print: Print) -> io::Result<bool> {
     let mut bytes = vec![];
     io::stdin().lock().take(BYTES).read_to_end(&mut bytes)?;
     let mut tokens = vec![0; TOKENS];
     let mut pool = vec![0; ROW_WORDS * ROWS];
-    let script = read_script(&bytes, &mut tokens, &mut pool);
+    let script =
+        read_file(&bytes, &mut tokens).and_then(|tokens| whole_script(tokens, &mut pool, mode));
     let mut out = io::BufWriter::new(io::stdout().lock());
     print(&mut out, script)?;
     out.flush()?;
     Ok(script.is_ok())
-}
-
-/// Reads the file's fields, and the script that they are.
-fn read_script<'a>(bytes: &[u8], tokens: &mut [u16], pool: &'a mut [u32]) -> Script<'a> {
-    whole_script(read_file(bytes, tokens)?, pool)
 }
 
 /// Prints the tree, or the refusal with what it means.

@@ -3,10 +3,11 @@
 //! It takes a script's tokens and answers its tree, or refuses it with a number and a place. Each
 //! token is a word ([`Token`]), with EOF last and nowhere else. The tree is laid out in a pool of
 //! words that the caller lends, [`ROW_WORDS`] to a row; reading allocates nothing. After a refusal every
-//! word of the pool is zero. No input makes these functions panic.
+//! word of the pool is zero. No input makes these functions panic. A [`Mode`] says by which rules is
+//! read: the original's, or strict ones.
 //!
 //! ```
-//! use shigthapul::{whole_script, Infix, Kind, Symbol, Token, TOKEN_WORDS};
+//! use shigthapul::{whole_script, Infix, Kind, Mode, Symbol, Token, TOKEN_WORDS};
 //!
 //! # fn main() -> Result<(), shigthapul::Refusal> {
 //! // a + b * c
@@ -15,7 +16,7 @@
 //! let tokens = [name, plus, name, times, name, Token::EOF].map(Token::word);
 //!
 //! let mut pool = vec![0; TOKEN_WORDS * tokens.len()];
-//! let tree = whole_script(&tokens, &mut pool)?;
+//! let tree = whole_script(&tokens, &mut pool, Mode::Strict)?;
 //!
 //! let product = tree.of_kind(Kind::Infix).next().unwrap();
 //! assert_eq!(product.infix(), Some(Infix::Mul));
@@ -37,6 +38,7 @@ mod table;
 mod entries;
 mod files;
 mod kind;
+mod mode;
 pub mod raw;
 mod refusal;
 mod sizes;
@@ -48,6 +50,7 @@ mod walk;
 pub use entries::{one_expression, one_statement, whole_script};
 pub use files::read_file;
 pub use kind::{Infix, Kind, Prefix, Suffix};
+pub use mode::Mode;
 pub use refusal::{Reason, Refusal};
 pub use sizes::{MOST_ROWS, ROW_WORDS, TOKEN_WORDS};
 pub use text::{fold, text};

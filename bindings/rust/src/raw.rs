@@ -8,7 +8,7 @@
 //!
 //! let mut pool = [7; ROW_WORDS + 1];
 //! let mut answer = [9; 3];
-//! shigthapul::raw::whole_script(&[0x0700, 0x0B00], &mut pool, &mut answer);
+//! shigthapul::raw::whole_script(&[0x0700, 0x0B00], &mut pool, true, &mut answer);
 //! assert_eq!(answer, [1, 1, 0]); // refusal 1 at place 1
 //! assert_eq!(pool, [0; ROW_WORDS + 1]);
 //! ```
@@ -18,6 +18,7 @@
 //! - Every pointer comes from a slice and goes with that slice's own length. So it is not null, it
 //!   is aligned, and good for so many elements; where there are none it is not followed.
 //! - What is written comes from `&mut` slices, so that nothing else refers to it during the call.
+//! - A `bool` here is C's own: a byte that is 0 or 1.
 //! - The functions ask nothing else of a caller. For any words and any lengths they are proved to
 //!   stay inside what they are lent, and to return. They have no state, and keep no pointer.
 //!
@@ -31,6 +32,7 @@ extern "C" {
         pool: *mut u32,
         pool_len: usize,
         start: usize,
+        strict: bool,
         answer: *mut u64,
         answer_len: usize,
     );
@@ -40,6 +42,7 @@ extern "C" {
         pool: *mut u32,
         pool_len: usize,
         start: usize,
+        strict: bool,
         answer: *mut u64,
         answer_len: usize,
     );
@@ -48,6 +51,7 @@ extern "C" {
         tokens_len: usize,
         pool: *mut u32,
         pool_len: usize,
+        strict: bool,
         answer: *mut u64,
         answer_len: usize,
     );
@@ -77,8 +81,15 @@ extern "C" {
     );
 }
 
-/// Reads one expression from a start place: 0, root, rows, place; or a refusal's number and place.
-pub fn one_expression(tokens: &[u16], pool: &mut [u32], start: usize, answer: &mut [u64]) {
+/// Reads one expression from a start place, in strict mode or in the old one: 0, root, rows, place; or
+/// a refusal's number and place.
+pub fn one_expression(
+    tokens: &[u16],
+    pool: &mut [u32],
+    start: usize,
+    strict: bool,
+    answer: &mut [u64],
+) {
     // SAFETY: see the head of this module.
     unsafe {
         shigthapul_one_expression(
@@ -87,6 +98,7 @@ pub fn one_expression(tokens: &[u16], pool: &mut [u32], start: usize, answer: &m
             pool.as_mut_ptr(),
             pool.len(),
             start,
+            strict,
             answer.as_mut_ptr(),
             answer.len(),
         )
@@ -94,7 +106,13 @@ pub fn one_expression(tokens: &[u16], pool: &mut [u32], start: usize, answer: &m
 }
 
 /// Reads one statement from a start place: the same answer.
-pub fn one_statement(tokens: &[u16], pool: &mut [u32], start: usize, answer: &mut [u64]) {
+pub fn one_statement(
+    tokens: &[u16],
+    pool: &mut [u32],
+    start: usize,
+    strict: bool,
+    answer: &mut [u64],
+) {
     // SAFETY: see the head of this module.
     unsafe {
         shigthapul_one_statement(
@@ -103,6 +121,7 @@ pub fn one_statement(tokens: &[u16], pool: &mut [u32], start: usize, answer: &mu
             pool.as_mut_ptr(),
             pool.len(),
             start,
+            strict,
             answer.as_mut_ptr(),
             answer.len(),
         )
@@ -110,7 +129,7 @@ pub fn one_statement(tokens: &[u16], pool: &mut [u32], start: usize, answer: &mu
 }
 
 /// Reads a whole script: the same answer.
-pub fn whole_script(tokens: &[u16], pool: &mut [u32], answer: &mut [u64]) {
+pub fn whole_script(tokens: &[u16], pool: &mut [u32], strict: bool, answer: &mut [u64]) {
     // SAFETY: see the head of this module.
     unsafe {
         shigthapul_whole_script(
@@ -118,6 +137,7 @@ pub fn whole_script(tokens: &[u16], pool: &mut [u32], answer: &mut [u64]) {
             tokens.len(),
             pool.as_mut_ptr(),
             pool.len(),
+            strict,
             answer.as_mut_ptr(),
             answer.len(),
         )

@@ -40,6 +40,8 @@ table! {
         TryWithoutCatch = 27, "try: no catch";
         BreakWithoutSemicolon = 28, "break: no ;";
         ContinueWithoutSemicolon = 29, "continue: no ;";
+        /// In strict mode only: [`Mode::Strict`](crate::Mode::Strict) says which calls and bodies.
+        WrongSign = 30, "a call with arguments: no ); while, foreach, finally: no {";
     }
 }
 
@@ -48,13 +50,13 @@ table! {
 /// The place is that of a token, from 0; for [`Reason::BadField`] it is that of a field.
 ///
 /// ```
-/// use shigthapul::{one_expression, Reason, Refusal, Symbol, Token, ROW_WORDS};
+/// use shigthapul::{one_expression, Mode, Reason, Refusal, Symbol, Token, ROW_WORDS};
 ///
 /// let open = Token::Operator(Symbol::SLParen).word();
 /// let close = Token::Operator(Symbol::SRparen).word();
 /// let group = [open, Token::Identifier.word(), close, Token::EOF.word()];
 ///
-/// let refusal = one_expression(&group, &mut [0; 8 * ROW_WORDS], 0).unwrap_err();
+/// let refusal = one_expression(&group, &mut [0; 8 * ROW_WORDS], 0, Mode::Old).unwrap_err();
 /// assert_eq!(refusal, Refusal { reason: Reason::InvalidSyntax, place: 1 });
 /// assert_eq!(refusal.number(), 10);
 /// assert!(refusal.to_string().starts_with("refused 10 at 1: "));

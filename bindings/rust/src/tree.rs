@@ -54,12 +54,12 @@ impl Row {
 /// An accepted script, expression or statement: its tree in the lent pool.
 ///
 /// ```
-/// use shigthapul::{one_expression, Kind, ROW_WORDS};
+/// use shigthapul::{one_expression, Kind, Mode, ROW_WORDS};
 ///
 /// // `f ( a , b )` and EOF
 /// let tokens = [0x0700, 0x0805, 0x0700, 0x080C, 0x0700, 0x0806, 0x0200];
 /// let mut pool = [0; 10 * ROW_WORDS];
-/// let tree = one_expression(&tokens, &mut pool, 0).unwrap();
+/// let tree = one_expression(&tokens, &mut pool, 0, Mode::Strict).unwrap();
 ///
 /// let call = tree.root().unwrap();
 /// assert_eq!(call.kind(), Kind::Call);
@@ -119,9 +119,11 @@ impl<'a> Tree<'a> {
     /// Every node in the order of the rows: parts come before wholes.
     ///
     /// ```
+    /// use shigthapul::{one_expression, Mode, ROW_WORDS};
+    ///
     /// // `! a` and EOF
-    /// let mut pool = [0; 2 * shigthapul::ROW_WORDS];
-    /// let tree = shigthapul::one_expression(&[0x080E, 0x0700, 0x0200], &mut pool, 0).unwrap();
+    /// let mut pool = [0; 2 * ROW_WORDS];
+    /// let tree = one_expression(&[0x080E, 0x0700, 0x0200], &mut pool, 0, Mode::Strict).unwrap();
     /// let lines: Vec<String> = tree.nodes().map(|node| node.to_string()).collect();
     /// assert_eq!(lines, ["identifier at 1", "prefix ! at 0"]);
     /// ```
@@ -139,10 +141,12 @@ impl<'a> Tree<'a> {
     /// A tree may be as deep as it has rows, and this takes no recursion.
     ///
     /// ```
+    /// use shigthapul::{one_expression, Mode, ROW_WORDS};
+    ///
     /// // `a + b` and EOF
-    /// let mut pool = [0; 10 * shigthapul::ROW_WORDS];
+    /// let mut pool = [0; 10 * ROW_WORDS];
     /// let tokens = [0x0700, 0x0801, 0x0700, 0x0200];
-    /// let tree = shigthapul::one_expression(&tokens, &mut pool, 0).unwrap();
+    /// let tree = one_expression(&tokens, &mut pool, 0, Mode::Strict).unwrap();
     /// let lines: Vec<_> = tree.walk().map(|(depth, node)| format!("{depth} {node}")).collect();
     /// assert_eq!(lines, ["0 infix + at 1", "1 identifier at 0", "1 identifier at 2"]);
     /// ```
@@ -162,10 +166,12 @@ impl fmt::Debug for Tree<'_> {
 /// It is displayed in words: kind, operator or flags, place.
 ///
 /// ```
+/// use shigthapul::{one_expression, Mode, ROW_WORDS};
+///
 /// // `( thread f ( ) )` and EOF
 /// let tokens = [0x0805, 0x091A, 0x0700, 0x0805, 0x0806, 0x0806, 0x0200];
-/// let mut pool = [0; 10 * shigthapul::ROW_WORDS];
-/// let call = shigthapul::one_expression(&tokens, &mut pool, 0).unwrap().root().unwrap();
+/// let mut pool = [0; 10 * ROW_WORDS];
+/// let call = one_expression(&tokens, &mut pool, 0, Mode::Strict).unwrap().root().unwrap();
 /// assert!(call.is_thread() && call.is_grouped() && !call.is_async());
 /// assert_eq!(call.to_string(), "call thread grouped at 3");
 /// ```
@@ -211,10 +217,12 @@ impl<'a> Node<'a> {
     /// The members of a slot, 0 to 3: none, one child, or a list.
     ///
     /// ```
+    /// use shigthapul::{one_expression, Mode, ROW_WORDS};
+    ///
     /// // `[ a , b ]` and EOF
     /// let tokens = [0x0822, 0x0700, 0x080C, 0x0700, 0x0823, 0x0200];
-    /// let mut pool = [0; 10 * shigthapul::ROW_WORDS];
-    /// let array = shigthapul::one_expression(&tokens, &mut pool, 0).unwrap().root().unwrap();
+    /// let mut pool = [0; 10 * ROW_WORDS];
+    /// let array = one_expression(&tokens, &mut pool, 0, Mode::Strict).unwrap().root().unwrap();
     /// assert_eq!(array.list(0).count(), 2);
     /// assert_eq!(array.list(1).count(), 0);
     /// ```

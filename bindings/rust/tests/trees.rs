@@ -1,13 +1,13 @@
 //! Trees: roots, rows, children, lists and walks.
 mod common;
 use common::{enough, line, read, words};
-use shigthapul::{Infix, Kind, Prefix, Suffix, Tree, ROW_WORDS};
+use shigthapul::{Infix, Kind, Mode, Prefix, Suffix, Tree, ROW_WORDS};
 
 /// Reads a text by an entry and looks at its tree.
 fn with_tree<T>(entry: &str, text: &str, look: impl FnOnce(Tree) -> T) -> T {
     let tokens = words(text);
     let mut pool = vec![0; ROW_WORDS * enough(&tokens)];
-    look(read(entry, &tokens, &mut pool).unwrap())
+    look(read(entry, &tokens, &mut pool, Mode::Strict).unwrap())
 }
 
 #[test]
@@ -77,7 +77,7 @@ fn a_walk_of_a_deep_tree() {
     let (name, increment) = (words("a _NOEOF"), words("++ _NOEOF"));
     let tokens = [name, increment.repeat(30_000), words("")].concat();
     let mut pool = vec![0; ROW_WORDS * enough(&tokens)];
-    let tree = read("X", &tokens, &mut pool).unwrap();
+    let tree = read("X", &tokens, &mut pool, Mode::Strict).unwrap();
     let (depth, deepest) = tree.walk().last().unwrap();
     assert_eq!((depth, deepest.kind()), (30_000, Kind::Identifier));
 }

@@ -2,7 +2,7 @@
 //! edges, and the tables of `docs/DIFFERENCES.md`.
 mod common;
 use common::{answer, enough, read, text_of, words};
-use shigthapul::ROW_WORDS;
+use shigthapul::{Mode, ROW_WORDS};
 
 #[test]
 fn the_table_of_the_oracle() {
@@ -15,13 +15,16 @@ fn the_table_of_the_oracle() {
         let (entry, rows) = head.split_once('/').unwrap_or((head, ""));
         let tokens = words(text);
         let rows = rows.parse().unwrap_or_else(|_| enough(&tokens));
-        assert_eq!(answer(entry, &tokens, rows), pair[1].trim(), "{}", pair[0]);
+        let [old, strict] = Mode::ALL.map(|mode| answer(entry, &tokens, rows, mode));
+        assert_eq!(old, pair[1].trim(), "{}", pair[0]);
+        assert!(strict == old || strict.starts_with("no 30 "), "{}", pair[0]);
     }
 }
 
-/// A line of a table: the entry, the rows if they are few, the tokens, and the answer.
+/// A line of a table: the entry, the mode, the rows if they are few, the tokens, and the answer.
 struct Line<'a> {
     entry: &'a str,
+    mode: Mode,
     rows: Option<usize>,
     tokens: Vec<u16>,
     answer: &'a str,
@@ -31,10 +34,14 @@ struct Line<'a> {
 fn line_of(text: &str) -> Option<Line<'_>> {
     let mut columns = text.strip_prefix("| ")?.split(" | ");
     let (head, tokens, answer) = (columns.next()?, columns.next()?, columns.next()?);
+    let (head, mode) = match head.strip_prefix("strict ") {
+        Some(head) => (head, Mode::Strict),
+        None => (head, Mode::Old),
+    };
     let (entry, rows) = head.split_once(", ").unwrap_or((head, ""));
     let rows = rows.split(' ').next().and_then(|count| count.parse().ok());
     let tokens = words(tokens.strip_prefix('`')?.strip_suffix('`')?);
-    ["X", "S", "W"].contains(&entry).then(|| Line { entry, rows, tokens, answer })
+    ["X", "S", "W"].contains(&entry).then(|| Line { entry, mode, rows, tokens, answer })
 }
 
 /// The number behind some words of a text.
@@ -47,7 +54,7 @@ fn number_behind(text: &str, before: &str) -> Option<usize> {
 fn compare(line: &Line, text: &str) {
     let mut pool = vec![0; ROW_WORDS * line.rows.unwrap_or_else(|| enough(&line.tokens))];
     let refused = line.answer.starts_with(|first: char| first.is_ascii_digit());
-    match read(line.entry, &line.tokens, &mut pool) {
+    match read(line.entry, &line.tokens, &mut pool, line.mode) {
         Err(no) => assert!(
             line.answer.starts_with(&format!("{} at {}", no.number(), no.place)),
             "{}",
@@ -67,7 +74,8 @@ fn compare(line: &Line, text: &str) {
 fn the_tables_of_the_differences() {
     let page = text_of("docs/DIFFERENCES.md");
     let lines: Vec<_> = page.lines().filter_map(|text| Some((line_of(text)?, text))).collect();
-    assert!(lines.len() >= 200, "only {} examples", lines.len());
+    let strict = lines.iter().filter(|(line, _)| line.mode == Mode::Strict).count();
+    assert!(lines.len() >= 200 && strict >= 20, "{} examples, {} strict", lines.len(), strict);
     for (line, text) in lines {
         compare(&line, text);
     }

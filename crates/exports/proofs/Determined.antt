@@ -8,13 +8,13 @@ use Rattle.exports.proofs.shigthapul_read_file.Reads as read-file
 use Rattle.exports.proofs.shigthapul_fold.Reads as fold
 use Rattle.exports.proofs.shigthapul_text.Reads as text
 
-pub one-expression-determined : Determines {A = _ × _} one-expression.Post (λ κs r left. (now (left .1 .1 .1 .0), now (left .1 .0)))
+pub one-expression-determined : Determines {A = _ × _} one-expression.Post (λ κs r left. (now (left .1 .1 .1 .1 .0), now (left .1 .0)))
 one-expression-determined κs args r r′ left left′ p q = cc
 
-pub one-statement-determined : Determines {A = _ × _} one-statement.Post (λ κs r left. (now (left .1 .1 .1 .0), now (left .1 .0)))
+pub one-statement-determined : Determines {A = _ × _} one-statement.Post (λ κs r left. (now (left .1 .1 .1 .1 .0), now (left .1 .0)))
 one-statement-determined κs args r r′ left left′ p q = cc
 
-pub whole-script-determined : Determines {A = _ × _} whole-script.Post (λ κs r left. (now (left .1 .1 .0), now (left .1 .0)))
+pub whole-script-determined : Determines {A = _ × _} whole-script.Post (λ κs r left. (now (left .1 .1 .1 .0), now (left .1 .0)))
 whole-script-determined κs args r r′ left left′ p q = cc
 
 pub read-file-determined : Determines {A = _ × _} read-file.Post (λ κs r left. (now (left .1 .1 .0), now (left .1 .0)))

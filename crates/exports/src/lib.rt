@@ -2,48 +2,56 @@
 ghost use mathlib.Core.Path.{_≡_};
 ghost use lib.ListN.{length};
 ghost use Rattle.grammar.specs.Script as spec;
+ghost use Rattle.words.specs.Modes.{by, chosen};
 ghost use Rattle.answer.specs.Answer.{answered, numbers};
 ghost use Rattle.files.specs.Entry.{file-answer, file-buffer};
 ghost use Rattle.text.specs.Entries.{fold-answer, fold-buffer};
 ghost use Rattle.four.specs.Answers.{over, file-words, fold-words, text-words};
 
-// Reads one expression from a start place.
+// Reads one expression from a start place, in strict mode or in the old one.
 #[no_mangle]
 pub extern "C" fn shigthapul_one_expression(
     tokens: &[u16],
     pool: &mut [u32],
     start: usize,
+    strict: bool,
     answer: &mut [u64],
 )
-    ensures answer { λ _. ⌜ now (answer .exit) ≡ over (numbers (answered (spec.one-expression (now (tokens .entry)) start (spec.rows (length (now (pool .entry))))))) (now (answer .entry)) ⌝ }
-    ensures pool { λ _. ⌜ now (pool .exit) ≡ spec.pool (length (now (pool .entry))) (spec.one-expression (now (tokens .entry)) start (spec.rows (length (now (pool .entry))))) ⌝ }
+    ensures answer { λ _. ⌜ now (answer .exit) ≡ over (numbers (answered (spec.one-expression (by (chosen strict)) (now (tokens .entry)) start (spec.rows (length (now (pool .entry))))))) (now (answer .entry)) ⌝ }
+    ensures pool { λ _. ⌜ now (pool .exit) ≡ spec.pool (length (now (pool .entry))) (spec.one-expression (by (chosen strict)) (now (tokens .entry)) start (spec.rows (length (now (pool .entry))))) ⌝ }
 {
-    let outcome = parser::one_expression(tokens, pool, start);
+    let outcome = parser::one_expression(tokens, pool, start, words::mode_of(strict));
     four::put_answer(answer, outcome);
 }
 
-// Reads one statement from a start place.
+// Reads one statement from a start place, in strict mode or in the old one.
 #[no_mangle]
 pub extern "C" fn shigthapul_one_statement(
     tokens: &[u16],
     pool: &mut [u32],
     start: usize,
+    strict: bool,
     answer: &mut [u64],
 )
-    ensures answer { λ _. ⌜ now (answer .exit) ≡ over (numbers (answered (spec.one-statement (now (tokens .entry)) start (spec.rows (length (now (pool .entry))))))) (now (answer .entry)) ⌝ }
-    ensures pool { λ _. ⌜ now (pool .exit) ≡ spec.pool (length (now (pool .entry))) (spec.one-statement (now (tokens .entry)) start (spec.rows (length (now (pool .entry))))) ⌝ }
+    ensures answer { λ _. ⌜ now (answer .exit) ≡ over (numbers (answered (spec.one-statement (by (chosen strict)) (now (tokens .entry)) start (spec.rows (length (now (pool .entry))))))) (now (answer .entry)) ⌝ }
+    ensures pool { λ _. ⌜ now (pool .exit) ≡ spec.pool (length (now (pool .entry))) (spec.one-statement (by (chosen strict)) (now (tokens .entry)) start (spec.rows (length (now (pool .entry))))) ⌝ }
 {
-    let outcome = parser::one_statement(tokens, pool, start);
+    let outcome = parser::one_statement(tokens, pool, start, words::mode_of(strict));
     four::put_answer(answer, outcome);
 }
 
-// Reads a whole script.
+// Reads a whole script, in strict mode or in the old one.
 #[no_mangle]
-pub extern "C" fn shigthapul_whole_script(tokens: &[u16], pool: &mut [u32], answer: &mut [u64])
-    ensures answer { λ _. ⌜ now (answer .exit) ≡ over (numbers (answered (spec.whole-script (now (tokens .entry)) (spec.rows (length (now (pool .entry))))))) (now (answer .entry)) ⌝ }
-    ensures pool { λ _. ⌜ now (pool .exit) ≡ spec.pool (length (now (pool .entry))) (spec.whole-script (now (tokens .entry)) (spec.rows (length (now (pool .entry))))) ⌝ }
+pub extern "C" fn shigthapul_whole_script(
+    tokens: &[u16],
+    pool: &mut [u32],
+    strict: bool,
+    answer: &mut [u64],
+)
+    ensures answer { λ _. ⌜ now (answer .exit) ≡ over (numbers (answered (spec.whole-script (by (chosen strict)) (now (tokens .entry)) (spec.rows (length (now (pool .entry))))))) (now (answer .entry)) ⌝ }
+    ensures pool { λ _. ⌜ now (pool .exit) ≡ spec.pool (length (now (pool .entry))) (spec.whole-script (by (chosen strict)) (now (tokens .entry)) (spec.rows (length (now (pool .entry))))) ⌝ }
 {
-    let outcome = parser::whole_script(tokens, pool);
+    let outcome = parser::whole_script(tokens, pool, words::mode_of(strict));
     four::put_answer(answer, outcome);
 }
 

@@ -5,6 +5,7 @@ use mathlib.Core.List.{List, flatten}
 use native.Mathlib.Omega.{arith}
 use lib.ListN.{take}
 use lib.Seq.{take-at}
+use Rattle.grammar.specs.Rules.{original}
 use Rattle.grammar.specs.Script.{whole-script, rows}
 use Rattle.answer.specs.declared.Answer.{Answer}
 use Rattle.answer.specs.declared.Answer.the-variants as an
@@ -23,14 +24,14 @@ fits bytes size answer known = accepted bytes size (sym answer ∙ known) .fit
 
 -- where a count is answered, the script is that of so many words of the buffer
 script-of : (bytes left : List ℕ) (words size n : ℕ) {r : Answer} {ys : List ℕ} → Accepted bytes words n → left ≡ file-buffer bytes words
-    → Entered (whole-script (take n left) (rows size)) r size ys → text r ys ≡ outlined bytes words size
+    → Entered (whole-script original (take n left) (rows size)) r size ys → text r ys ≡ outlined bytes words size
 unfolding outlined outcome
 script-of bytes left words size n a buffer entered =
     let e : take n left ≡ a .words = rw (buffer, a .given) (take-at (a .words) _ n (a .counted)) in
     rw (entered .answer, entered .left, e, a .given)
 
 pub script : (bytes left : List ℕ) (words size n : ℕ) {f : Fields} {r : Answer} {ys : List ℕ} → f ≡ file-answer bytes words → f ≡ Count n → left ≡ file-buffer bytes words
-    → Entered (whole-script (take n left) (rows size)) r size ys → text r ys ≡ outlined bytes words size
+    → Entered (whole-script original (take n left) (rows size)) r size ys → text r ys ≡ outlined bytes words size
 script bytes left words size n answer known = script-of bytes left words size n (accepted bytes words (sym answer ∙ known))
 
 -- a refusal is the file's

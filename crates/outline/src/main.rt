@@ -5,6 +5,7 @@ use libc::STDIN_FILENO;
 use libc::STDOUT_FILENO;
 use lines::LINE;
 use rows::WIDTH;
+use words::Mode;
 ghost use mathlib.Core.Path.{_≡_};
 ghost use mathlib.Core.List.{[]};
 ghost use Prim.Native.Nat.{_≤_};
@@ -28,7 +29,7 @@ fn read(bytes: &[u8], tokens: &mut [u16], pool: &mut [u32]) -> Answer
 {
     let fields = files::read(bytes, tokens);
     match fields {
-        Fields::Count(n) => parser::whole_script(&tokens[..n], pool),
+        Fields::Count(n) => parser::whole_script(&tokens[..n], pool, Mode::Old),
         Fields::Refused(number, place) => Answer::Refused(number, place),
     }
 }

@@ -10,6 +10,7 @@ use borrow.Author.Tests.{eqb-true, eqb-false}
 use Rattle.grammar.specs.Words.{EOF, tok, step, is, class}
 use Rattle.grammar.specs.Tree.{Trees}
 use Rattle.grammar.specs.Parsed.{Parsed, refused, read, _>>=_, choose, match}
+use Rattle.grammar.specs.Rules.{Rules}
 use Rattle.grammar.specs.Expressions as e
 use Rattle.grammar.specs.Statements as s
 use Rattle.words.proofs.Steps.{step-on}
@@ -20,20 +21,20 @@ use Rattle.parser.specs.Contracts.{Begun, BegunCase}
 use Rattle.parser.proofs.Moves.{moves}
 
 -- At the end an expression is refused, and so is a statement.
-no-expression : (ts : List ℕ) (d pre at room : ℕ) → tok ts at ≡ EOF → (n : ℕ) × (e.expression ts d pre at room ≡ refused n at)
+no-expression : (rules : Rules) (ts : List ℕ) (d pre at room : ℕ) → tok ts at ≡ EOF → (n : ℕ) × (e.expression rules ts d pre at room ≡ refused n at)
 unfolding e.expression e.level e.prefix-part e.no-prefix match choose class _>>=_
-no-expression ts zero pre at room q = (2, refl)
-no-expression ts (suc d) pre at room q = (11, rw q)
+no-expression rules ts zero pre at room q = (2, refl)
+no-expression rules ts (suc d) pre at room q = (11, rw q)
 
-no-statement : (ts : List ℕ) (d at room : ℕ) → tok ts at ≡ EOF → (n : ℕ) × (s.statement ts d at room ≡ refused n at)
+no-statement : (rules : Rules) (ts : List ℕ) (d at room : ℕ) → tok ts at ≡ EOF → (n : ℕ) × (s.statement rules ts d at room ≡ refused n at)
 unfolding s.statement s.level s.kept s.expression-statement is match choose _>>=_
-no-statement ts zero at room q = (2, refl)
-no-statement ts (suc d) at room q = let x = no-expression ts d 0 at room q in (x .0, rw (q, x .1))
+no-statement rules ts zero at room q = (2, refl)
+no-statement rules ts (suc d) at room q = let x = no-expression rules ts d 0 at room q in (x .0, rw (q, x .1))
 
 -- So what was read as a statement did not begin there.
-pub not-at-end : (ts : List ℕ) (d at room : ℕ) {us : Trees} {b left : ℕ} → s.statement ts d at room ≡ read us b left → (tok ts at ≡ EOF) → ⊥
-not-at-end ts d at room {us} {b} {left} e q =
-    let x = no-statement ts d at room q in
+pub not-at-end : (rules : Rules) (ts : List ℕ) (d at room : ℕ) {us : Trees} {b left : ℕ} → s.statement rules ts d at room ≡ read us b left → (tok ts at ≡ EOF) → ⊥
+not-at-end rules ts d at room {us} {b} {left} e q =
+    let x = no-statement rules ts d at room q in
     let z : _≡_ {A = Parsed Trees} (refused (x .0) at) (read us b left) = sym (x .1) ∙ e in
     let y : _≡_ {A = ℕ} 0 1 = cc in
     omega arith

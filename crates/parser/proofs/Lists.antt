@@ -6,6 +6,7 @@ use Prim.Native.Nat.{ℕ}
 use Rattle.grammar.specs.Words.{KIf, KWhile, KFor, KBreak, KContinue, KConst, KVar, KFunc, KReturn, KTry, KThrow, KForEach, KAssert, tok}
 use Rattle.grammar.specs.Tree.{Tree, Trees, nil, _▸_}
 use Rattle.grammar.specs.Parsed.{Parsed, refused, read, Reader, Check, met, failed, _>>=_, _>>_}
+use Rattle.grammar.specs.Rules.{Rules}
 use Rattle.grammar.specs.Expressions.{Rec}
 use Rattle.grammar.specs.Statements.{kept, expression-statement}
 use Rattle.answer.specs.declared.Read.{Read}
@@ -35,7 +36,7 @@ abbrev pub plain : ℕ → Bool
 plain = none (KBreak ∷ KContinue ∷ KVar ∷ KConst ∷ KIf ∷ KAssert ∷ KWhile ∷ KReturn ∷ KFunc ∷ KFor ∷ KThrow ∷ KTry ∷ KForEach ∷ [])
 
 -- A statement that no keyword begins is an expression.
-pub by-expression : {ts : List ℕ} {at first w : ℕ} {r : Read} {xs ys : List ℕ} (expr : Rec) (stmt : Reader Trees) (room : ℕ) → tok ts at ≡ w → plain w ≡ true
-    → Meets one ts at (around expr 38 0 at at room) [] first r xs ys → Meets one ts at (kept ts expr stmt at room) [] first r xs ys
+pub by-expression : {ts : List ℕ} {at first w : ℕ} {r : Read} {xs ys : List ℕ} (rules : Rules) (expr : Rec) (stmt : Reader Trees) (room : ℕ) → tok ts at ≡ w → plain w ≡ true
+    → Meets one ts at (around expr 38 0 at at room) [] first r xs ys → Meets one ts at (kept rules ts expr stmt at room) [] first r xs ys
 unfolding kept expression-statement around
-by-expression expr stmt room e h m = by-eq (unmatched _ _ _ _ _ (rw e h)) m
+by-expression rules expr stmt room e h m = by-eq (unmatched _ _ _ _ _ (rw e h)) m

@@ -9,6 +9,7 @@ use Rattle.grammar.specs.Words.{Operator, Keyword, Integer, Str, Float, Char, I
 use Rattle.grammar.specs.Words.{KNone, KTrue, KFalse, KLambda, KThread, KAsync, tok, class}
 use Rattle.grammar.specs.Tree.{Tree, nil, _▸_, size, flagged}
 use Rattle.grammar.specs.Parsed.{Parsed, refused, read, Reader, Arm, _⇒_, match, choose, InvalidToken, InvalidSymbol, NotImplemented}
+use Rattle.grammar.specs.Rules.{Rules}
 use Rattle.grammar.specs.Expressions.{Rec, prefix-part, no-prefix}
 use Rattle.rows.specs.Rows.{marked, bit}
 use Rattle.rows.specs.declared.Flag.{Flag}
@@ -66,10 +67,10 @@ last ts at room = go (eqb (class (tok ts at)) Keyword) (eqb (class (tok ts at)) 
 abbrev pub no-start : ℕ → ℕ → Bool
 no-start n w = none prefixes w && eqb (refusal w) n
 
-pub unstarted : {ts : List ℕ} {at first w : ℕ} {xs ys : List ℕ} (rec : Rec) (room n : ℕ) → tok ts at ≡ w → no-start n w ≡ true
-    → Meets one ts at (prefix-part ts rec at room) [] first (the.Refused n at) xs ys
+pub unstarted : {ts : List ℕ} {at first w : ℕ} {xs ys : List ℕ} (rules : Rules) (rec : Rec) (room n : ℕ) → tok ts at ≡ w → no-start n w ≡ true
+    → Meets one ts at (prefix-part rules ts rec at room) [] first (the.Refused n at) xs ys
 unfolding prefix-part
-unstarted {ts} {at} rec room n e h =
+unstarted {ts} {at} rules rec room n e h =
     let both = and-eq-true-iff (none prefixes (tok ts at)) (eqb (refusal (tok ts at)) n) .0 (rw e h) in
     refuses _ n at (unmatched _ _ _ at room (both .0) ∙ last ts at room ∙ ap (λ (i : ℕ). refused i at) (eqb-true _ n (both .1)))
 

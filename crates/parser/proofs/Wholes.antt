@@ -13,6 +13,7 @@ use borrow.Rule.Slice.PartMut.{putMid}
 use Rattle.grammar.specs.Words.{Empty, is}
 use Rattle.grammar.specs.Tree.{Tree, Trees, nil, _▸_, sizes, head-ref, lay, lays, width}
 use Rattle.grammar.specs.Parsed.{Parsed, refused, read, _>>=_, Check, met, failed, need, _>>_, choose, BadStart}
+use Rattle.grammar.specs.Rules.{Rules}
 use Rattle.grammar.specs.Statements as s
 use Rattle.grammar.specs.Script.{both, array-good, rows, pool, whole-script}
 use Rattle.grammar.proofs.Checks.{both-met, need-met}
@@ -154,10 +155,10 @@ unfolding choose
 choose-alone true at room Q us b left e = let q : nil ≡ us = cc in rw (← q) refl
 choose-alone false at room Q us b left e = one-alone Q us b left e
 
-pub statement-alone : (ts : List ℕ) (d at room : ℕ) → Alone (s.statement ts d at room)
+pub statement-alone : (rules : Rules) (ts : List ℕ) (d at room : ℕ) → Alone (s.statement rules ts d at room)
 unfolding s.statement s.level
-statement-alone ts zero at room us b left e = let z : _≡_ {A = ℕ} 0 1 = cc in absurd (omega arith)
-statement-alone ts (suc d) at room us b left e = choose-alone (is ts at Empty) at room _ us b left e
+statement-alone rules ts zero at room us b left e = let z : _≡_ {A = ℕ} 0 1 = cc in absurd (omega arith)
+statement-alone rules ts (suc d) at room us b left e = choose-alone (is ts at Empty) at room _ us b left e
 
 pub alone-by : {P Q : Parsed Trees} → P ≡ Q → Alone Q → Alone P
 alone-by e h us at left q = h us at left (sym e ∙ q)
@@ -180,11 +181,11 @@ unfolding pool
 unread words e ea ey = rw e (record { answer = ea; left = ey })
 
 -- What an entry reads is alone.
-pub reads-alone : (e : Entry) (ts : List ℕ) (at room : ℕ) → Alone (reads e ts at room)
+pub reads-alone : (e : Entry) (rules : Rules) (ts : List ℕ) (at room : ℕ) → Alone (reads e rules ts at room)
 unfolding reads
-reads-alone what.Expression ts at room us b left e = one-alone _ us b left e
-reads-alone what.Statement ts at room us b left e = statement-alone ts _ at room us b left e
-reads-alone what.Script ts at room us b left e = one-alone _ us b left e
+reads-alone what.Expression rules ts at room us b left e = one-alone _ us b left e
+reads-alone what.Statement rules ts at room us b left e = statement-alone rules ts _ at room us b left e
+reads-alone what.Script rules ts at room us b left e = one-alone _ us b left e
 
 -- One reader after another, either way.
 then-assoc : {A B C : Type 0} (x : Parsed A) (f : A × ℕ × ℕ → Parsed B) (g : B × ℕ × ℕ → Parsed C) → (x >>= λ y. f y >>= g) ≡ ((x >>= f) >>= g)
@@ -202,6 +203,6 @@ at-zero {A} ts x y e = go (array-good ts) refl
     go (failed n p) q = refl
 
 -- So a whole script is entered there.
-pub whole-enters : (ts : List ℕ) (room : ℕ) → whole-script ts room ≡ enters what.Script ts 0 room
+pub whole-enters : (rules : Rules) (ts : List ℕ) (room : ℕ) → whole-script rules ts room ≡ enters what.Script rules ts 0 room
 unfolding whole-script enters reads script
-whole-enters ts room = at-zero ts _ _ (then-assoc _ _ _)
+whole-enters rules ts room = at-zero ts _ _ (then-assoc _ _ _)

@@ -7,8 +7,11 @@ use lib.ListN.{length}
 use lib.Dec.{eqb}
 use Rattle.grammar.specs.Words.{EOF, SLBrace, KIf, KWhile, KFor, KConst, KVar, KFunc, KTry, KThrow, KForEach, KAssert, Zero, tok, step, next-is}
 use Rattle.grammar.specs.Tree.{Tree, node, Trees, nil, _▸_, size, head-ref, width}
-use Rattle.grammar.specs.Parsed.{Reader, _>>=_, _>>_, need, build, InvalidSyntax}
+use Rattle.grammar.specs.Parsed.{Reader, _>>=_, _>>_, need, build}
+use Rattle.grammar.specs.Rules.{Rules}
 use Rattle.grammar.specs.Expressions.{Rec, pair}
+use Rattle.words.specs.declared.modes.Due.{Due}
+use Rattle.words.specs.Modes.{comes}
 use Rattle.answer.specs.declared.Read.{Read}
 use Rattle.answer.specs.declared.Read.the-variants as the
 use Rattle.parser.specs.Meets.{Stands, Meets, one, many, Ending, Bounded, after}
@@ -50,16 +53,16 @@ around rec kind mark place at room = do
   (t, at, room) ← rec Zero at room
   build (node kind mark place (t ▸ nil) nil nil nil) at room
 
--- A row whose closing sign comes next.
-unfoldable pub closed : (ts : List ℕ) (close number : ℕ) → Tree → Reader Tree
-closed ts close number t at room = do
-  need (next-is ts at close) number at
+-- A row whose closing sign comes next, where it is due.
+unfoldable pub closed : (due : Due) (ts : List ℕ) (close number : ℕ) → Tree → Reader Tree
+closed due ts close number t at room = do
+  need (comes due ts at close) number at
   build t (step ts at) room
 
 -- An expression above an order, or a pair of a hash.
-unfoldable pub item : (ts : List ℕ) (rec : Rec) (order : ℕ) → Bool → Reader Tree
-item ts rec order true = pair ts rec
-item ts rec order false = rec order
+unfoldable pub item : (rules : Rules) (ts : List ℕ) (rec : Rec) (order : ℕ) → Bool → Reader Tree
+item rules ts rec order true = pair rules ts rec
+item rules ts rec order false = rec order
 
 -- A sign that comes next, and the expression after it.
 unfoldable pub behind-sign : (ts : List ℕ) (rec : Rec) (sign number : ℕ) → Reader Tree
@@ -67,23 +70,17 @@ behind-sign ts rec sign number at room = do
   need (next-is ts at sign) number at
   rec Zero (step ts (step ts at)) room
 
--- A sign that comes next, and the block after it.
-unfoldable pub open-body : (ts : List ℕ) (block : Reader Tree) (sign : ℕ) → Reader Tree
-open-body ts block sign at room = do
-  need (next-is ts at sign) InvalidSyntax at
-  block (step ts at) room
-
--- A sign and an opening brace that come next, and the block.
-unfoldable pub body : (ts : List ℕ) (block : Reader Tree) (sign missing bare : ℕ) → Reader Tree
-body ts block sign missing bare at room = do
+-- A sign that comes next, an opening brace behind it, where it is due, and the block.
+unfoldable pub body : (due : Due) (ts : List ℕ) (block : Reader Tree) (sign missing bare : ℕ) → Reader Tree
+body due ts block sign missing bare at room = do
   need (next-is ts at sign) missing at
-  need (next-is ts (step ts at) SLBrace) bare (step ts at)
+  need (comes due ts (step ts at) SLBrace) bare (step ts at)
   block (step ts at) room
 
--- An opening brace that comes next, and the block.
-unfoldable pub braced : (ts : List ℕ) (block : Reader Tree) → Reader Tree
-braced ts block at room = do
-  need (next-is ts at SLBrace) InvalidSyntax at
+-- An opening brace that comes next, where it is due, and the block.
+unfoldable pub braced : (due : Due) (ts : List ℕ) (block : Reader Tree) (number : ℕ) → Reader Tree
+braced due ts block number at room = do
+  need (comes due ts at SLBrace) number at
   block at room
 
 -- The keywords of statements that may not end right behind them.

@@ -12,6 +12,8 @@ use tokens::Keyword;
 use tokens::Symbol;
 use tokens::Token;
 use words::Cursor;
+use words::Due;
+use words::Mode;
 ghost use mathlib.Core.Path.{_≡_};
 ghost use mathlib.Core.Bool.{true};
 ghost use Prim.Native.Nat.{_*_, _≤_, _<_};
@@ -23,6 +25,7 @@ ghost use Rattle.grammar.specs.Expressions as spec;
 ghost use Rattle.tokens.specs.Tokens.{word};
 ghost use Rattle.tokens.specs.declared.Token.the-variants as token;
 ghost use Rattle.rows.specs.Rows.{bit};
+ghost use Rattle.words.specs.Modes.{by};
 ghost use Rattle.parser.specs.Meets.{Ready, one, many};
 ghost use Rattle.parser.specs.Contracts.{Fresh, Behind, Follows, Extends};
 ghost use Rattle.parser.specs.Contracts as contract;
@@ -34,16 +37,17 @@ pub fn expression(
     first: usize,
     c: Cursor,
     order: usize,
+    mode: Mode,
     allow: usize,
 ) -> Read
     requires { ⌜ Ready (now tokens) (now pool) first c ⌝ }
-    ensures { λ r. ⌜ Fresh one (spec.expression (now (tokens .entry)) allow order) (now (tokens .entry)) c first r (now (pool .entry)) (now (pool .exit)) ⌝ }
+    ensures { λ r. ⌜ Fresh one (spec.expression (by mode) (now (tokens .entry)) allow order) (now (tokens .entry)) c first r (now (pool .entry)) (now (pool .exit)) ⌝ }
 {
     if allow == 0 {
         return Read::Refused(TOO_DEEP, c);
     }
     let less = allow - 1;
-    let r = prefix_part(tokens, pool, first, c, less);
+    let r = prefix_part(tokens, pool, first, c, mode, less);
     let Read::Tree(k, h, d) = r else {
         return passed(r);
     };
@@ -51,13 +55,20 @@ pub fn expression(
         let e = words::iterate(tokens, d);
         return Read::Tree(k, h, e);
     }
-    climb(tokens, pool, first, k, h, d, order, less)
+    climb(tokens, pool, first, k, h, d, order, mode, less)
 }
 
 // The match at the head of parse_expression.
-fn prefix_part(tokens: &[u16], pool: &mut [u32], first: usize, c: Cursor, less: usize) -> Read
+fn prefix_part(
+    tokens: &[u16],
+    pool: &mut [u32],
+    first: usize,
+    c: Cursor,
+    mode: Mode,
+    less: usize,
+) -> Read
     requires { ⌜ Ready (now tokens) (now pool) first c ⌝ }
-    ensures { λ r. ⌜ Fresh one (spec.prefix-part (now (tokens .entry)) (spec.expression (now (tokens .entry)) less)) (now (tokens .entry)) c first r (now (pool .entry)) (now (pool .exit)) ⌝ }
+    ensures { λ r. ⌜ Fresh one (spec.prefix-part (by mode) (now (tokens .entry)) (spec.expression (by mode) (now (tokens .entry)) less)) (now (tokens .entry)) c first r (now (pool .entry)) (now (pool .exit)) ⌝ }
 {
     let t = words::current(tokens, c);
     match t {
@@ -66,8 +77,8 @@ fn prefix_part(tokens: &[u16], pool: &mut [u32], first: usize, c: Cursor, less: 
         Token::Float => leaf(pool, first, c, FLOAT, 0),
         Token::Char => leaf(pool, first, c, CHAR, 0),
         Token::Str => leaf(pool, first, c, STRING, 0),
-        Token::Keyword(k) => at_keyword(tokens, pool, first, c, k, less),
-        Token::Operator(s) => at_operator(tokens, pool, first, c, s, less),
+        Token::Keyword(k) => at_keyword(tokens, pool, first, c, k, mode, less),
+        Token::Operator(s) => at_operator(tokens, pool, first, c, s, mode, less),
         _ => Read::Refused(INVALID_TOKEN, c),
     }
 }
@@ -79,18 +90,19 @@ fn at_keyword(
     first: usize,
     c: Cursor,
     k: Keyword,
+    mode: Mode,
     less: usize,
 ) -> Read
     requires { ⌜ (Ready (now tokens) (now pool) first c) × (tok (now tokens) c ≡ word (token.Keyword k)) ⌝ }
-    ensures { λ r. ⌜ Fresh one (spec.prefix-part (now (tokens .entry)) (spec.expression (now (tokens .entry)) less)) (now (tokens .entry)) c first r (now (pool .entry)) (now (pool .exit)) ⌝ }
+    ensures { λ r. ⌜ Fresh one (spec.prefix-part (by mode) (now (tokens .entry)) (spec.expression (by mode) (now (tokens .entry)) less)) (now (tokens .entry)) c first r (now (pool .entry)) (now (pool .exit)) ⌝ }
 {
     match k {
         Keyword::KTrue => leaf(pool, first, c, BOOL, 1),
         Keyword::KFalse => leaf(pool, first, c, BOOL, 0),
-        Keyword::KLambda => lambda(tokens, pool, first, c, less),
+        Keyword::KLambda => lambda(tokens, pool, first, c, mode, less),
         Keyword::KNone => leaf(pool, first, c, NONE, 0),
-        Keyword::KThread => started(tokens, pool, first, c, Flag::Thread, less),
-        Keyword::KAsync => started(tokens, pool, first, c, Flag::Async, less),
+        Keyword::KThread => started(tokens, pool, first, c, Flag::Thread, mode, less),
+        Keyword::KAsync => started(tokens, pool, first, c, Flag::Async, mode, less),
         _ => Read::Refused(NOT_IMPLEMENTED, c),
     }
 }
@@ -102,20 +114,21 @@ fn at_operator(
     first: usize,
     c: Cursor,
     s: Symbol,
+    mode: Mode,
     less: usize,
 ) -> Read
     requires { ⌜ (Ready (now tokens) (now pool) first c) × (tok (now tokens) c ≡ word (token.Operator s)) ⌝ }
-    ensures { λ r. ⌜ Fresh one (spec.prefix-part (now (tokens .entry)) (spec.expression (now (tokens .entry)) less)) (now (tokens .entry)) c first r (now (pool .entry)) (now (pool .exit)) ⌝ }
+    ensures { λ r. ⌜ Fresh one (spec.prefix-part (by mode) (now (tokens .entry)) (spec.expression (by mode) (now (tokens .entry)) less)) (now (tokens .entry)) c first r (now (pool .entry)) (now (pool .exit)) ⌝ }
 {
     match s {
-        Symbol::SLBox => array(tokens, pool, first, c, less),
-        Symbol::SLBrace => hash(tokens, pool, first, c, less),
-        Symbol::SIncr => prefix(tokens, pool, first, c, 0, less),
-        Symbol::SDecr => prefix(tokens, pool, first, c, 1, less),
-        Symbol::SExcl => prefix(tokens, pool, first, c, 2, less),
-        Symbol::SNeg => prefix(tokens, pool, first, c, 3, less),
-        Symbol::SLParen => sub_exp(tokens, pool, first, c, less),
-        Symbol::SDollar => shell(tokens, pool, first, c, less),
+        Symbol::SLBox => array(tokens, pool, first, c, mode, less),
+        Symbol::SLBrace => hash(tokens, pool, first, c, mode, less),
+        Symbol::SIncr => prefix(tokens, pool, first, c, 0, mode, less),
+        Symbol::SDecr => prefix(tokens, pool, first, c, 1, mode, less),
+        Symbol::SExcl => prefix(tokens, pool, first, c, 2, mode, less),
+        Symbol::SNeg => prefix(tokens, pool, first, c, 3, mode, less),
+        Symbol::SLParen => sub_exp(tokens, pool, first, c, mode, less),
+        Symbol::SDollar => shell(tokens, pool, first, c, mode, less),
         _ => Read::Refused(INVALID_SYMBOL, c),
     }
 }
@@ -129,12 +142,13 @@ pub fn around(
     kind: u32,
     mark: u32,
     place: usize,
+    mode: Mode,
     less: usize,
 ) -> Read
     requires { ⌜ (Ready (now tokens) (now pool) first c) × (place < 65536) ⌝ }
-    ensures { λ r. ⌜ Fresh one (contract.around (spec.expression (now (tokens .entry)) less) kind mark place) (now (tokens .entry)) c first r (now (pool .entry)) (now (pool .exit)) ⌝ }
+    ensures { λ r. ⌜ Fresh one (contract.around (spec.expression (by mode) (now (tokens .entry)) less) kind mark place) (now (tokens .entry)) c first r (now (pool .entry)) (now (pool .exit)) ⌝ }
 {
-    let r = expression(tokens, pool, first, c, 0, less);
+    let r = expression(tokens, pool, first, c, 0, mode, less);
     let Read::Tree(k, h, d) = r else {
         return r;
     };
@@ -142,9 +156,17 @@ pub fn around(
 }
 
 // parse_prefix_expression, by the mark of its operator.
-fn prefix(tokens: &[u16], pool: &mut [u32], first: usize, c: Cursor, mark: u32, less: usize) -> Read
+fn prefix(
+    tokens: &[u16],
+    pool: &mut [u32],
+    first: usize,
+    c: Cursor,
+    mark: u32,
+    mode: Mode,
+    less: usize,
+) -> Read
     requires { ⌜ Ready (now tokens) (now pool) first c ⌝ }
-    ensures { λ r. ⌜ Fresh one (spec.prefix (now (tokens .entry)) (spec.expression (now (tokens .entry)) less) mark) (now (tokens .entry)) c first r (now (pool .entry)) (now (pool .exit)) ⌝ }
+    ensures { λ r. ⌜ Fresh one (spec.prefix (by mode) (now (tokens .entry)) (spec.expression (by mode) (now (tokens .entry)) less) mark) (now (tokens .entry)) c first r (now (pool .entry)) (now (pool .exit)) ⌝ }
 {
     around(
         tokens,
@@ -154,14 +176,15 @@ fn prefix(tokens: &[u16], pool: &mut [u32], first: usize, c: Cursor, mark: u32, 
         PREFIX,
         mark,
         c,
+        mode,
         less,
     )
 }
 
 // parse_shell_expression
-fn shell(tokens: &[u16], pool: &mut [u32], first: usize, c: Cursor, less: usize) -> Read
+fn shell(tokens: &[u16], pool: &mut [u32], first: usize, c: Cursor, mode: Mode, less: usize) -> Read
     requires { ⌜ Ready (now tokens) (now pool) first c ⌝ }
-    ensures { λ r. ⌜ Fresh one (spec.shell (now (tokens .entry)) (spec.expression (now (tokens .entry)) less)) (now (tokens .entry)) c first r (now (pool .entry)) (now (pool .exit)) ⌝ }
+    ensures { λ r. ⌜ Fresh one (spec.shell (by mode) (now (tokens .entry)) (spec.expression (by mode) (now (tokens .entry)) less)) (now (tokens .entry)) c first r (now (pool .entry)) (now (pool .exit)) ⌝ }
 {
     let d = words::iterate(tokens, c);
     if words::next_symbol_is(tokens, c, Symbol::SDot) {
@@ -173,10 +196,11 @@ fn shell(tokens: &[u16], pool: &mut [u32], first: usize, c: Cursor, less: usize)
             SHELL,
             1,
             c,
+            mode,
             less,
         );
     }
-    around(tokens, pool, first, d, SHELL, 0, c, less)
+    around(tokens, pool, first, d, SHELL, 0, c, mode, less)
 }
 
 // An expression, or a pair of a hash.
@@ -187,15 +211,16 @@ fn item(
     c: Cursor,
     order: usize,
     paired: bool,
+    mode: Mode,
     less: usize,
 ) -> Read
     requires { ⌜ Ready (now tokens) (now pool) first c ⌝ }
-    ensures { λ r. ⌜ Fresh one (contract.item (now (tokens .entry)) (spec.expression (now (tokens .entry)) less) order paired) (now (tokens .entry)) c first r (now (pool .entry)) (now (pool .exit)) ⌝ }
+    ensures { λ r. ⌜ Fresh one (contract.item (by mode) (now (tokens .entry)) (spec.expression (by mode) (now (tokens .entry)) less) order paired) (now (tokens .entry)) c first r (now (pool .entry)) (now (pool .exit)) ⌝ }
 {
     if paired {
-        return pair(tokens, pool, first, c, less);
+        return pair(tokens, pool, first, c, mode, less);
     }
-    expression(tokens, pool, first, c, order, less)
+    expression(tokens, pool, first, c, order, mode, less)
 }
 
 // An item behind the first `rows` rows of the part.
@@ -207,13 +232,23 @@ pub fn behind(
     c: Cursor,
     order: usize,
     paired: bool,
+    mode: Mode,
     less: usize,
 ) -> Read
     requires { ⌜ (Ready (now tokens) (now pool) first c) × (width * rows ≤ length (now pool)) ⌝ }
-    ensures { λ r. ⌜ Behind one (contract.item (now (tokens .entry)) (spec.expression (now (tokens .entry)) less) order paired) (now (tokens .entry)) c first rows r (now (pool .entry)) (now (pool .exit)) ⌝ }
+    ensures { λ r. ⌜ Behind one (contract.item (by mode) (now (tokens .entry)) (spec.expression (by mode) (now (tokens .entry)) less) order paired) (now (tokens .entry)) c first rows r (now (pool .entry)) (now (pool .exit)) ⌝ }
 {
     let i = rows::end(rows as u32);
-    let r = item(tokens, &mut pool[i..], first + rows, c, order, paired, less);
+    let r = item(
+        tokens,
+        &mut pool[i..],
+        first + rows,
+        c,
+        order,
+        paired,
+        mode,
+        less,
+    );
     let Read::Tree(k, h, d) = r else {
         return r;
     };
@@ -229,17 +264,18 @@ fn entries(
     head: u32,
     c: Cursor,
     paired: bool,
+    mode: Mode,
     less: usize,
 ) -> Read
     requires { ⌜ (Ready (now tokens) (now pool) first c) × (width * rows ≤ length (now pool)) ⌝ }
-    ensures { λ r. ⌜ Extends (spec.entries (now (tokens .entry)) (spec.expression (now (tokens .entry)) less) (contract.item (now (tokens .entry)) (spec.expression (now (tokens .entry)) less) 0 paired) turns) (now (tokens .entry)) c first rows head r (now (pool .entry)) (now (pool .exit)) ⌝ }
+    ensures { λ r. ⌜ Extends (spec.entries (by mode) (now (tokens .entry)) (spec.expression (by mode) (now (tokens .entry)) less) (contract.item (by mode) (now (tokens .entry)) (spec.expression (by mode) (now (tokens .entry)) less) 0 paired) turns) (now (tokens .entry)) c first rows head r (now (pool .entry)) (now (pool .exit)) ⌝ }
 {
     let mut k = rows;
     let mut h = head;
     let mut d = c;
     while words::next_symbol_is(tokens, d, Symbol::SComma) {
         let e = words::iterate(tokens, words::iterate(tokens, d));
-        let r = behind(tokens, pool, first, k, e, 0, paired, less);
+        let r = behind(tokens, pool, first, k, e, 0, paired, mode, less);
         let Read::Tree(m, g, f) = r else {
             return r;
         };
@@ -252,26 +288,41 @@ fn entries(
 }
 
 // parse_list_expr
-pub fn list_expr(tokens: &[u16], pool: &mut [u32], first: usize, c: Cursor, less: usize) -> Read
+pub fn list_expr(
+    tokens: &[u16],
+    pool: &mut [u32],
+    first: usize,
+    c: Cursor,
+    mode: Mode,
+    less: usize,
+) -> Read
     requires { ⌜ Ready (now tokens) (now pool) first c ⌝ }
-    ensures { λ r. ⌜ Fresh many (spec.list-expr (now (tokens .entry)) (spec.expression (now (tokens .entry)) less)) (now (tokens .entry)) c first r (now (pool .entry)) (now (pool .exit)) ⌝ }
+    ensures { λ r. ⌜ Fresh many (spec.list-expr (by mode) (now (tokens .entry)) (spec.expression (by mode) (now (tokens .entry)) less)) (now (tokens .entry)) c first r (now (pool .entry)) (now (pool .exit)) ⌝ }
 {
     if words::next_symbol_is(tokens, c, Symbol::SRparen) {
         return Read::Tree(0, 0, c);
     }
-    let r = expression(tokens, pool, first, words::iterate(tokens, c), 0, less);
+    let r = expression(
+        tokens,
+        pool,
+        first,
+        words::iterate(tokens, c),
+        0,
+        mode,
+        less,
+    );
     let Read::Tree(k, h, d) = r else {
         return r;
     };
-    entries(tokens, pool, first, k, h, d, false, less)
+    entries(tokens, pool, first, k, h, d, false, mode, less)
 }
 
 // parse_pair
-fn pair(tokens: &[u16], pool: &mut [u32], first: usize, c: Cursor, less: usize) -> Read
+fn pair(tokens: &[u16], pool: &mut [u32], first: usize, c: Cursor, mode: Mode, less: usize) -> Read
     requires { ⌜ Ready (now tokens) (now pool) first c ⌝ }
-    ensures { λ r. ⌜ Fresh one (spec.pair (now (tokens .entry)) (spec.expression (now (tokens .entry)) less)) (now (tokens .entry)) c first r (now (pool .entry)) (now (pool .exit)) ⌝ }
+    ensures { λ r. ⌜ Fresh one (spec.pair (by mode) (now (tokens .entry)) (spec.expression (by mode) (now (tokens .entry)) less)) (now (tokens .entry)) c first r (now (pool .entry)) (now (pool .exit)) ⌝ }
 {
-    let r = expression(tokens, pool, first, c, 0, less);
+    let r = expression(tokens, pool, first, c, 0, mode, less);
     let Read::Tree(k, h, d) = r else {
         return r;
     };
@@ -287,6 +338,7 @@ fn pair(tokens: &[u16], pool: &mut [u32], first: usize, c: Cursor, less: usize) 
         words::iterate(tokens, e),
         0,
         false,
+        mode,
         less,
     );
     let Read::Tree(m, g, f) = q else {
@@ -296,19 +348,19 @@ fn pair(tokens: &[u16], pool: &mut [u32], first: usize, c: Cursor, less: usize) 
 }
 
 // parse_hash_literal
-fn hash(tokens: &[u16], pool: &mut [u32], first: usize, c: Cursor, less: usize) -> Read
+fn hash(tokens: &[u16], pool: &mut [u32], first: usize, c: Cursor, mode: Mode, less: usize) -> Read
     requires { ⌜ Ready (now tokens) (now pool) first c ⌝ }
-    ensures { λ r. ⌜ Fresh one (spec.hash-literal (now (tokens .entry)) (spec.expression (now (tokens .entry)) less)) (now (tokens .entry)) c first r (now (pool .entry)) (now (pool .exit)) ⌝ }
+    ensures { λ r. ⌜ Fresh one (spec.hash-literal (by mode) (now (tokens .entry)) (spec.expression (by mode) (now (tokens .entry)) less)) (now (tokens .entry)) c first r (now (pool .entry)) (now (pool .exit)) ⌝ }
 {
     let d = words::iterate(tokens, c);
     if words::next_symbol_is(tokens, c, Symbol::SRBrace) {
         return put_row(pool, first, 0, d, HASH, 0, c, 0, 0, 0, 0);
     }
-    let r = pair(tokens, pool, first, d, less);
+    let r = pair(tokens, pool, first, d, mode, less);
     let Read::Tree(k, h, e) = r else {
         return r;
     };
-    let q = entries(tokens, pool, first, k, h, e, true, less);
+    let q = entries(tokens, pool, first, k, h, e, true, mode, less);
     let Read::Tree(m, g, f) = q else {
         return q;
     };
@@ -319,6 +371,7 @@ fn hash(tokens: &[u16], pool: &mut [u32], first: usize, c: Cursor, less: usize) 
         m,
         f,
         Symbol::SRBrace,
+        Due::Always,
         HASH_NOT_TERMINATED,
         HASH,
         c,
@@ -328,9 +381,9 @@ fn hash(tokens: &[u16], pool: &mut [u32], first: usize, c: Cursor, less: usize) 
 }
 
 // parse_array_expression
-fn array(tokens: &[u16], pool: &mut [u32], first: usize, c: Cursor, less: usize) -> Read
+fn array(tokens: &[u16], pool: &mut [u32], first: usize, c: Cursor, mode: Mode, less: usize) -> Read
     requires { ⌜ Ready (now tokens) (now pool) first c ⌝ }
-    ensures { λ r. ⌜ Fresh one (spec.array (now (tokens .entry)) (spec.expression (now (tokens .entry)) less)) (now (tokens .entry)) c first r (now (pool .entry)) (now (pool .exit)) ⌝ }
+    ensures { λ r. ⌜ Fresh one (spec.array (by mode) (now (tokens .entry)) (spec.expression (by mode) (now (tokens .entry)) less)) (now (tokens .entry)) c first r (now (pool .entry)) (now (pool .exit)) ⌝ }
 {
     if words::next_symbol_is(tokens, c, Symbol::SRBox) {
         return put_row(
@@ -347,7 +400,7 @@ fn array(tokens: &[u16], pool: &mut [u32], first: usize, c: Cursor, less: usize)
             0,
         );
     }
-    let r = list_expr(tokens, pool, first, c, less);
+    let r = list_expr(tokens, pool, first, c, mode, less);
     let Read::Tree(k, h, d) = r else {
         return r;
     };
@@ -358,6 +411,7 @@ fn array(tokens: &[u16], pool: &mut [u32], first: usize, c: Cursor, less: usize)
         k,
         d,
         Symbol::SRBox,
+        Due::Always,
         ARRAY_NOT_TERMINATED,
         ARRAY,
         c,
@@ -367,9 +421,16 @@ fn array(tokens: &[u16], pool: &mut [u32], first: usize, c: Cursor, less: usize)
 }
 
 // parse_lambda_exp
-fn lambda(tokens: &[u16], pool: &mut [u32], first: usize, c: Cursor, less: usize) -> Read
+fn lambda(
+    tokens: &[u16],
+    pool: &mut [u32],
+    first: usize,
+    c: Cursor,
+    mode: Mode,
+    less: usize,
+) -> Read
     requires { ⌜ Ready (now tokens) (now pool) first c ⌝ }
-    ensures { λ r. ⌜ Fresh one (spec.lambda (now (tokens .entry)) (spec.expression (now (tokens .entry)) less)) (now (tokens .entry)) c first r (now (pool .entry)) (now (pool .exit)) ⌝ }
+    ensures { λ r. ⌜ Fresh one (spec.lambda (by mode) (now (tokens .entry)) (spec.expression (by mode) (now (tokens .entry)) less)) (now (tokens .entry)) c first r (now (pool .entry)) (now (pool .exit)) ⌝ }
 {
     if words::next_symbol_is(tokens, c, Symbol::SSemiColon) {
         return Read::Refused(INVALID_SYNTAX, c);
@@ -377,7 +438,7 @@ fn lambda(tokens: &[u16], pool: &mut [u32], first: usize, c: Cursor, less: usize
     if words::next_symbol_is(tokens, c, Symbol::SImpl) {
         return Read::Refused(NO_PARAMETERS, c);
     }
-    let r = list_expr(tokens, pool, first, c, less);
+    let r = list_expr(tokens, pool, first, c, mode, less);
     let Read::Tree(k, h, d) = r else {
         return r;
     };
@@ -385,7 +446,7 @@ fn lambda(tokens: &[u16], pool: &mut [u32], first: usize, c: Cursor, less: usize
         return Read::Refused(EXPECTED_ARROW, d);
     }
     let e = words::iterate(tokens, words::iterate(tokens, d));
-    let q = behind(tokens, pool, first, k, e, 0, false, less);
+    let q = behind(tokens, pool, first, k, e, 0, false, mode, less);
     let Read::Tree(m, g, f) = q else {
         return q;
     };
@@ -399,12 +460,21 @@ fn started(
     first: usize,
     c: Cursor,
     flag: Flag,
+    mode: Mode,
     less: usize,
 ) -> Read
     requires { ⌜ Ready (now tokens) (now pool) first c ⌝ }
-    ensures { λ r. ⌜ Fresh one (spec.started (now (tokens .entry)) (spec.expression (now (tokens .entry)) less) (bit flag)) (now (tokens .entry)) c first r (now (pool .entry)) (now (pool .exit)) ⌝ }
+    ensures { λ r. ⌜ Fresh one (spec.started (by mode) (now (tokens .entry)) (spec.expression (by mode) (now (tokens .entry)) less) (bit flag)) (now (tokens .entry)) c first r (now (pool .entry)) (now (pool .exit)) ⌝ }
 {
-    let r = expression(tokens, pool, first, words::iterate(tokens, c), 0, less);
+    let r = expression(
+        tokens,
+        pool,
+        first,
+        words::iterate(tokens, c),
+        0,
+        mode,
+        less,
+    );
     let Read::Tree(k, _, d) = r else {
         return r;
     };
@@ -416,15 +486,22 @@ fn started(
 }
 
 // parse_sub_expression
-fn sub_exp(tokens: &[u16], pool: &mut [u32], first: usize, c: Cursor, less: usize) -> Read
+fn sub_exp(
+    tokens: &[u16],
+    pool: &mut [u32],
+    first: usize,
+    c: Cursor,
+    mode: Mode,
+    less: usize,
+) -> Read
     requires { ⌜ Ready (now tokens) (now pool) first c ⌝ }
-    ensures { λ r. ⌜ Fresh one (spec.sub-expression (now (tokens .entry)) (spec.expression (now (tokens .entry)) less)) (now (tokens .entry)) c first r (now (pool .entry)) (now (pool .exit)) ⌝ }
+    ensures { λ r. ⌜ Fresh one (spec.sub-expression (by mode) (now (tokens .entry)) (spec.expression (by mode) (now (tokens .entry)) less)) (now (tokens .entry)) c first r (now (pool .entry)) (now (pool .exit)) ⌝ }
 {
     let d = words::iterate(tokens, c);
     if words::next_symbol_is(tokens, d, Symbol::SRparen) {
         return Read::Refused(INVALID_SYNTAX, d);
     }
-    let r = expression(tokens, pool, first, d, 0, less);
+    let r = expression(tokens, pool, first, d, 0, mode, less);
     let Read::Tree(k, h, e) = r else {
         return r;
     };
@@ -444,16 +521,26 @@ fn climb(
     head: u32,
     c: Cursor,
     order: usize,
+    mode: Mode,
     less: usize,
 ) -> Read
     requires { ⌜ (Ready (now tokens) (now pool) first c) × (width * rows ≤ length (now pool)) ⌝ }
-    ensures { λ r. ⌜ Follows (spec.climb (now (tokens .entry)) (spec.expression (now (tokens .entry)) less) order turns) (now (tokens .entry)) c first rows head r (now (pool .entry)) (now (pool .exit)) ⌝ }
+    ensures { λ r. ⌜ Follows (spec.climb (by mode) (now (tokens .entry)) (spec.expression (by mode) (now (tokens .entry)) less) order turns) (now (tokens .entry)) c first rows head r (now (pool .entry)) (now (pool .exit)) ⌝ }
 {
     let mut k = rows;
     let mut h = head;
     let mut d = c;
     while orders::goes_on(order, words::next(tokens, d)) {
-        let r = operation(tokens, pool, first, k, h, words::iterate(tokens, d), less);
+        let r = operation(
+            tokens,
+            pool,
+            first,
+            k,
+            h,
+            words::iterate(tokens, d),
+            mode,
+            less,
+        );
         let Read::Tree(m, g, e) = r else {
             return passed(r);
         };
@@ -473,10 +560,11 @@ fn operation(
     rows: usize,
     head: u32,
     c: Cursor,
+    mode: Mode,
     less: usize,
 ) -> Read
     requires { ⌜ (Ready (now tokens) (now pool) first c) × (width * rows ≤ length (now pool)) × (operates (tok (now tokens) c) ≡ true) ⌝ }
-    ensures { λ r. ⌜ Follows (spec.operation (now (tokens .entry)) (spec.expression (now (tokens .entry)) less)) (now (tokens .entry)) c first rows head r (now (pool .entry)) (now (pool .exit)) ⌝ }
+    ensures { λ r. ⌜ Follows (spec.operation (by mode) (now (tokens .entry)) (spec.expression (by mode) (now (tokens .entry)) less)) (now (tokens .entry)) c first rows head r (now (pool .entry)) (now (pool .exit)) ⌝ }
 {
     let t = words::current(tokens, c);
     let Token::Operator(s) = t else {
@@ -485,9 +573,9 @@ fn operation(
     match s {
         Symbol::SIncr => put_row(pool, first, rows, c, SUFFIX, 0, c, head, 0, 0, 0),
         Symbol::SDecr => put_row(pool, first, rows, c, SUFFIX, 1, c, head, 0, 0, 0),
-        Symbol::SLParen => call(tokens, pool, first, rows, head, c, less),
-        Symbol::SLBox => index(tokens, pool, first, rows, head, c, less),
-        _ => infix_exp(tokens, pool, first, rows, head, c, less),
+        Symbol::SLParen => call(tokens, pool, first, rows, head, c, mode, less),
+        Symbol::SLBox => index(tokens, pool, first, rows, head, c, mode, less),
+        _ => infix_exp(tokens, pool, first, rows, head, c, mode, less),
     }
 }
 
@@ -499,10 +587,11 @@ fn infix_exp(
     rows: usize,
     head: u32,
     c: Cursor,
+    mode: Mode,
     less: usize,
 ) -> Read
     requires { ⌜ (Ready (now tokens) (now pool) first c) × (width * rows ≤ length (now pool)) ⌝ }
-    ensures { λ r. ⌜ Follows (spec.infix-expression (now (tokens .entry)) (spec.expression (now (tokens .entry)) less)) (now (tokens .entry)) c first rows head r (now (pool .entry)) (now (pool .exit)) ⌝ }
+    ensures { λ r. ⌜ Follows (spec.infix-expression (by mode) (now (tokens .entry)) (spec.expression (by mode) (now (tokens .entry)) less)) (now (tokens .entry)) c first rows head r (now (pool .entry)) (now (pool .exit)) ⌝ }
 {
     let t = words::current(tokens, c);
     let d = words::iterate(tokens, c);
@@ -514,6 +603,7 @@ fn infix_exp(
         d,
         orders::order_of(t),
         false,
+        mode,
         less,
     );
     let Read::Tree(k, h, e) = r else {
@@ -541,20 +631,21 @@ fn list_behind(
     first: usize,
     rows: usize,
     c: Cursor,
+    mode: Mode,
     less: usize,
 ) -> Read
     requires { ⌜ (Ready (now tokens) (now pool) first c) × (width * rows ≤ length (now pool)) ⌝ }
-    ensures { λ r. ⌜ Behind many (spec.list-expr (now (tokens .entry)) (spec.expression (now (tokens .entry)) less)) (now (tokens .entry)) c first rows r (now (pool .entry)) (now (pool .exit)) ⌝ }
+    ensures { λ r. ⌜ Behind many (spec.list-expr (by mode) (now (tokens .entry)) (spec.expression (by mode) (now (tokens .entry)) less)) (now (tokens .entry)) c first rows r (now (pool .entry)) (now (pool .exit)) ⌝ }
 {
     let i = rows::end(rows as u32);
-    let r = list_expr(tokens, &mut pool[i..], first + rows, c, less);
+    let r = list_expr(tokens, &mut pool[i..], first + rows, c, mode, less);
     let Read::Tree(k, h, d) = r else {
         return r;
     };
     Read::Tree(rows + k, h, d)
 }
 
-// parse_call_expression: with arguments any token closes it.
+// parse_call_expression: with arguments any token closes it, unless the mode asks for the right one.
 fn call(
     tokens: &[u16],
     pool: &mut [u32],
@@ -562,21 +653,34 @@ fn call(
     rows: usize,
     head: u32,
     c: Cursor,
+    mode: Mode,
     less: usize,
 ) -> Read
     requires { ⌜ (Ready (now tokens) (now pool) first c) × (width * rows ≤ length (now pool)) ⌝ }
-    ensures { λ r. ⌜ Follows (spec.call (now (tokens .entry)) (spec.expression (now (tokens .entry)) less)) (now (tokens .entry)) c first rows head r (now (pool .entry)) (now (pool .exit)) ⌝ }
+    ensures { λ r. ⌜ Follows (spec.call (by mode) (now (tokens .entry)) (spec.expression (by mode) (now (tokens .entry)) less)) (now (tokens .entry)) c first rows head r (now (pool .entry)) (now (pool .exit)) ⌝ }
 {
     if words::next_symbol_is(tokens, c, Symbol::SRparen) {
         let d = words::iterate(tokens, c);
         return put_row(pool, first, rows, d, CALL, 0, c, head, 0, 0, 0);
     }
-    let r = list_behind(tokens, pool, first, rows, c, less);
+    let r = list_behind(tokens, pool, first, rows, c, mode, less);
     let Read::Tree(k, h, e) = r else {
         return r;
     };
-    let f = words::iterate(tokens, e);
-    put_row(pool, first, k, f, CALL, 0, c, head, h, 0, 0)
+    closed(
+        tokens,
+        pool,
+        first,
+        k,
+        e,
+        Symbol::SRparen,
+        Due::By(mode),
+        WRONG_SIGN,
+        CALL,
+        c,
+        head,
+        h,
+    )
 }
 
 // parse_index_expression
@@ -587,10 +691,11 @@ fn index(
     rows: usize,
     head: u32,
     c: Cursor,
+    mode: Mode,
     less: usize,
 ) -> Read
     requires { ⌜ (Ready (now tokens) (now pool) first c) × (width * rows ≤ length (now pool)) ⌝ }
-    ensures { λ r. ⌜ Follows (spec.index (now (tokens .entry)) (spec.expression (now (tokens .entry)) less)) (now (tokens .entry)) c first rows head r (now (pool .entry)) (now (pool .exit)) ⌝ }
+    ensures { λ r. ⌜ Follows (spec.index (by mode) (now (tokens .entry)) (spec.expression (by mode) (now (tokens .entry)) less)) (now (tokens .entry)) c first rows head r (now (pool .entry)) (now (pool .exit)) ⌝ }
 {
     let r = behind(
         tokens,
@@ -600,6 +705,7 @@ fn index(
         words::iterate(tokens, c),
         0,
         false,
+        mode,
         less,
     );
     let Read::Tree(k, h, d) = r else {
@@ -612,6 +718,7 @@ fn index(
         k,
         d,
         Symbol::SRBox,
+        Due::Always,
         INVALID_SYNTAX,
         INDEX,
         c,

@@ -43,6 +43,8 @@ pub const BREAK_WITHOUT_SEMICOLON: u32 = 28;
 
 pub const CONTINUE_WITHOUT_SEMICOLON: u32 = 29;
 
+pub const WRONG_SIGN: u32 = 30;
+
 // The kinds.
 pub const NONE: u32 = 1;
 

@@ -4,6 +4,7 @@ use rows::Built;
 use rows::Row;
 use tokens::Symbol;
 use words::Cursor;
+use words::Due;
 ghost use mathlib.Core.Path.{_≡_};
 ghost use Prim.Native.Nat.{ℕ, _+_, _*_, _≤_, _<_};
 ghost use mathlib.Core.Bool.{cond};
@@ -61,7 +62,7 @@ pub fn leaf(pool: &mut [u32], first: usize, c: Cursor, kind: u32, mark: u32) -> 
     put_row(pool, first, 0, c, kind, mark, c, 0, 0, 0, 0)
 }
 
-// A row whose closing sign comes next, or else the refusal `number`.
+// A row whose closing sign comes next, where it is due, or else the refusal `number`.
 pub fn closed(
     tokens: &[u16],
     pool: &mut [u32],
@@ -69,6 +70,7 @@ pub fn closed(
     rows: usize,
     c: Cursor,
     close: Symbol,
+    due: Due,
     number: u32,
     kind: u32,
     place: usize,
@@ -76,9 +78,9 @@ pub fn closed(
     c1: u32,
 ) -> Read
     requires { ⌜ (Ready (now tokens) (now pool) first c) × (place < 65536) ⌝ }
-    ensures { λ r. ⌜ Ends (contract.closed (now (tokens .entry)) (word (token.Operator close)) number) (now (tokens .entry)) c first rows kind 0 place c0 c1 0 0 r (now (pool .entry)) (now (pool .exit)) ⌝ }
+    ensures { λ r. ⌜ Ends (contract.closed due (now (tokens .entry)) (word (token.Operator close)) number) (now (tokens .entry)) c first rows kind 0 place c0 c1 0 0 r (now (pool .entry)) (now (pool .exit)) ⌝ }
 {
-    if words::next_symbol_is(tokens, c, close) {
+    if words::comes(tokens, c, close, due) {
         return put_row(
             pool,
             first,

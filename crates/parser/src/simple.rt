@@ -9,6 +9,8 @@ use answer::Read;
 use tokens::Symbol;
 use tokens::Token;
 use words::Cursor;
+use words::Due;
+use words::Mode;
 ghost use Prim.Native.Nat.{_*_, _≤_};
 ghost use lib.ListN.{length};
 ghost use Rattle.grammar.specs.Words.{SSemiColon, step};
@@ -16,6 +18,8 @@ ghost use Rattle.grammar.specs.Tree.{leaf, node, nil, width};
 ghost use Rattle.grammar.specs.Expressions.{expression};
 ghost use Rattle.grammar.specs.Statements as spec;
 ghost use Rattle.tokens.specs.Tokens.{word};
+ghost use Rattle.words.specs.Modes.{by};
+ghost use Rattle.words.specs.declared.modes.Due.the-variants as due;
 ghost use Rattle.parser.specs.Meets.{Ready, one};
 ghost use Rattle.parser.specs.Contracts.{Fresh, Behind};
 ghost use Rattle.parser.specs.Contracts as contract;
@@ -30,7 +34,7 @@ pub fn alone(
     number: u32,
 ) -> Read
     requires { ⌜ Ready (now tokens) (now pool) first c ⌝ }
-    ensures { λ r. ⌜ Fresh one (λ at. contract.closed (now (tokens .entry)) SSemiColon number (leaf kind 0 at) at) (now (tokens .entry)) c first r (now (pool .entry)) (now (pool .exit)) ⌝ }
+    ensures { λ r. ⌜ Fresh one (λ at. contract.closed due.Always (now (tokens .entry)) SSemiColon number (leaf kind 0 at) at) (now (tokens .entry)) c first r (now (pool .entry)) (now (pool .exit)) ⌝ }
 {
     closed(
         tokens,
@@ -39,6 +43,7 @@ pub fn alone(
         0,
         c,
         Symbol::SSemiColon,
+        Due::Always,
         number,
         kind,
         c,
@@ -56,16 +61,17 @@ pub fn behind_sign(
     c: Cursor,
     sign: Token,
     number: u32,
+    mode: Mode,
     less: usize,
 ) -> Read
     requires { ⌜ (Ready (now tokens) (now pool) first c) × (width * rows ≤ length (now pool)) ⌝ }
-    ensures { λ r. ⌜ Behind one (contract.behind-sign (now (tokens .entry)) (expression (now (tokens .entry)) less) (word sign) number) (now (tokens .entry)) c first rows r (now (pool .entry)) (now (pool .exit)) ⌝ }
+    ensures { λ r. ⌜ Behind one (contract.behind-sign (now (tokens .entry)) (expression (by mode) (now (tokens .entry)) less) (word sign) number) (now (tokens .entry)) c first rows r (now (pool .entry)) (now (pool .exit)) ⌝ }
 {
     if !words::next_is(tokens, c, sign) {
         return Read::Refused(number, c);
     }
     let d = words::iterate(tokens, words::iterate(tokens, c));
-    behind(tokens, pool, first, rows, d, 0, false, less)
+    behind(tokens, pool, first, rows, d, 0, false, mode, less)
 }
 
 // parse_assert_statement
@@ -74,12 +80,21 @@ pub fn assert_statement(
     pool: &mut [u32],
     first: usize,
     c: Cursor,
+    mode: Mode,
     less: usize,
 ) -> Read
     requires { ⌜ Ready (now tokens) (now pool) first c ⌝ }
-    ensures { λ r. ⌜ Fresh one (spec.assert (now (tokens .entry)) (expression (now (tokens .entry)) less) (spec.statement (now (tokens .entry)) less)) (now (tokens .entry)) c first r (now (pool .entry)) (now (pool .exit)) ⌝ }
+    ensures { λ r. ⌜ Fresh one (spec.assert (by mode) (now (tokens .entry)) (expression (by mode) (now (tokens .entry)) less) (spec.statement (by mode) (now (tokens .entry)) less)) (now (tokens .entry)) c first r (now (pool .entry)) (now (pool .exit)) ⌝ }
 {
-    let r = expression(tokens, pool, first, words::iterate(tokens, c), 0, less);
+    let r = expression(
+        tokens,
+        pool,
+        first,
+        words::iterate(tokens, c),
+        0,
+        mode,
+        less,
+    );
     let Read::Tree(k, h, d) = r else {
         return r;
     };
@@ -88,7 +103,17 @@ pub fn assert_statement(
         return Read::Refused(ASSERT_WITHOUT_ACTION, e);
     }
     let comma = Token::Operator(Symbol::SComma);
-    let q = behind_sign(tokens, pool, first, k, d, comma, ASSERT_WITHOUT_COMMA, less);
+    let q = behind_sign(
+        tokens,
+        pool,
+        first,
+        k,
+        d,
+        comma,
+        ASSERT_WITHOUT_COMMA,
+        mode,
+        less,
+    );
     let Read::Tree(m, g, f) = q else {
         return q;
     };
@@ -96,9 +121,17 @@ pub fn assert_statement(
 }
 
 // The value of parse_var_or_const, behind the name.
-fn value(tokens: &[u16], pool: &mut [u32], first: usize, c: Cursor, kind: u32, less: usize) -> Read
+fn value(
+    tokens: &[u16],
+    pool: &mut [u32],
+    first: usize,
+    c: Cursor,
+    kind: u32,
+    mode: Mode,
+    less: usize,
+) -> Read
     requires { ⌜ Ready (now tokens) (now pool) first c ⌝ }
-    ensures { λ r. ⌜ Fresh one (λ at. spec.value (now (tokens .entry)) (expression (now (tokens .entry)) less) (spec.statement (now (tokens .entry)) less) (λ v. node kind 0 at v nil nil nil) (step (now (tokens .entry)) at)) (now (tokens .entry)) c first r (now (pool .entry)) (now (pool .exit)) ⌝ }
+    ensures { λ r. ⌜ Fresh one (λ at. spec.value (by mode) (now (tokens .entry)) (expression (by mode) (now (tokens .entry)) less) (spec.statement (by mode) (now (tokens .entry)) less) (λ v. node kind 0 at v nil nil nil) (step (now (tokens .entry)) at)) (now (tokens .entry)) c first r (now (pool .entry)) (now (pool .exit)) ⌝ }
 {
     let d = words::iterate(tokens, c);
     if !words::current_symbol_is(tokens, d, Symbol::SEq) {
@@ -112,14 +145,22 @@ fn value(tokens: &[u16], pool: &mut [u32], first: usize, c: Cursor, kind: u32, l
         kind,
         0,
         c,
+        mode,
         less,
     )
 }
 
 // parse_var_or_const for var, at the name.
-pub fn var_statement(tokens: &[u16], pool: &mut [u32], first: usize, c: Cursor, less: usize) -> Read
+pub fn var_statement(
+    tokens: &[u16],
+    pool: &mut [u32],
+    first: usize,
+    c: Cursor,
+    mode: Mode,
+    less: usize,
+) -> Read
     requires { ⌜ Ready (now tokens) (now pool) first c ⌝ }
-    ensures { λ r. ⌜ Fresh one (spec.var (now (tokens .entry)) (expression (now (tokens .entry)) less) (spec.statement (now (tokens .entry)) less)) (now (tokens .entry)) c first r (now (pool .entry)) (now (pool .exit)) ⌝ }
+    ensures { λ r. ⌜ Fresh one (spec.var (by mode) (now (tokens .entry)) (expression (by mode) (now (tokens .entry)) less) (spec.statement (by mode) (now (tokens .entry)) less)) (now (tokens .entry)) c first r (now (pool .entry)) (now (pool .exit)) ⌝ }
 {
     if !words::is_identifier(tokens, c) {
         return Read::Refused(INVALID_IDENTIFIER, c);
@@ -139,7 +180,7 @@ pub fn var_statement(tokens: &[u16], pool: &mut [u32], first: usize, c: Cursor, 
             0,
         );
     }
-    value(tokens, pool, first, c, VAR, less)
+    value(tokens, pool, first, c, VAR, mode, less)
 }
 
 // parse_var_or_const for const, at the name.
@@ -148,10 +189,11 @@ pub fn const_statement(
     pool: &mut [u32],
     first: usize,
     c: Cursor,
+    mode: Mode,
     less: usize,
 ) -> Read
     requires { ⌜ Ready (now tokens) (now pool) first c ⌝ }
-    ensures { λ r. ⌜ Fresh one (spec.const (now (tokens .entry)) (expression (now (tokens .entry)) less) (spec.statement (now (tokens .entry)) less)) (now (tokens .entry)) c first r (now (pool .entry)) (now (pool .exit)) ⌝ }
+    ensures { λ r. ⌜ Fresh one (spec.const (by mode) (now (tokens .entry)) (expression (by mode) (now (tokens .entry)) less) (spec.statement (by mode) (now (tokens .entry)) less)) (now (tokens .entry)) c first r (now (pool .entry)) (now (pool .exit)) ⌝ }
 {
     if !words::is_identifier(tokens, c) {
         return Read::Refused(INVALID_IDENTIFIER, c);
@@ -160,7 +202,7 @@ pub fn const_statement(
         let d = words::iterate(tokens, c);
         return Read::Refused(CONST_WITHOUT_VALUE, d);
     }
-    value(tokens, pool, first, c, CONST, less)
+    value(tokens, pool, first, c, CONST, mode, less)
 }
 
 // parse_return_statement
@@ -169,14 +211,15 @@ pub fn return_statement(
     pool: &mut [u32],
     first: usize,
     c: Cursor,
+    mode: Mode,
     less: usize,
 ) -> Read
     requires { ⌜ Ready (now tokens) (now pool) first c ⌝ }
-    ensures { λ r. ⌜ Fresh one (spec.return (now (tokens .entry)) (expression (now (tokens .entry)) less) (spec.statement (now (tokens .entry)) less)) (now (tokens .entry)) c first r (now (pool .entry)) (now (pool .exit)) ⌝ }
+    ensures { λ r. ⌜ Fresh one (spec.return (by mode) (now (tokens .entry)) (expression (by mode) (now (tokens .entry)) less) (spec.statement (by mode) (now (tokens .entry)) less)) (now (tokens .entry)) c first r (now (pool .entry)) (now (pool .exit)) ⌝ }
 {
     let d = words::iterate(tokens, c);
     if words::next_symbol_is(tokens, c, Symbol::SSemiColon) {
         return put_row(pool, first, 0, d, RETURN, 0, c, 0, 0, 0, 0);
     }
-    around(tokens, pool, first, d, RETURN, 0, c, less)
+    around(tokens, pool, first, d, RETURN, 0, c, mode, less)
 }

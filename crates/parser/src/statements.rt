@@ -16,6 +16,8 @@ use tokens::Keyword;
 use tokens::Symbol;
 use tokens::Token;
 use words::Cursor;
+use words::Due;
+use words::Mode;
 ghost use mathlib.Core.Path.{_≡_};
 ghost use Prim.Native.Nat.{_*_, _≤_};
 ghost use lib.ListN.{length};
@@ -26,14 +28,22 @@ ghost use Rattle.grammar.specs.Expressions.{expression};
 ghost use Rattle.grammar.specs.Statements as spec;
 ghost use Rattle.tokens.specs.Tokens.{word};
 ghost use Rattle.tokens.specs.declared.Token.the-variants as token;
+ghost use Rattle.words.specs.Modes.{by};
 ghost use Rattle.parser.specs.Meets.{Ready, one, many};
 ghost use Rattle.parser.specs.Contracts.{Fresh, Behind, Extends, Begun, further};
 ghost use Rattle.parser.specs.Contracts as contract;
 
 // parse_statement, where `allow` more expressions and statements may be open.
-pub fn statement(tokens: &[u16], pool: &mut [u32], first: usize, c: Cursor, allow: usize) -> Read
+pub fn statement(
+    tokens: &[u16],
+    pool: &mut [u32],
+    first: usize,
+    c: Cursor,
+    mode: Mode,
+    allow: usize,
+) -> Read
     requires { ⌜ Ready (now tokens) (now pool) first c ⌝ }
-    ensures { λ r. ⌜ Fresh many (spec.statement (now (tokens .entry)) allow) (now (tokens .entry)) c first r (now (pool .entry)) (now (pool .exit)) ⌝ }
+    ensures { λ r. ⌜ Fresh many (spec.statement (by mode) (now (tokens .entry)) allow) (now (tokens .entry)) c first r (now (pool .entry)) (now (pool .exit)) ⌝ }
 {
     if allow == 0 {
         return Read::Refused(TOO_DEEP, c);
@@ -42,8 +52,8 @@ pub fn statement(tokens: &[u16], pool: &mut [u32], first: usize, c: Cursor, allo
     let t = words::current(tokens, c);
     match t {
         Token::Empty => Read::Tree(0, 0, c),
-        Token::Keyword(k) => at_keyword(tokens, pool, first, c, k, less),
-        _ => around(tokens, pool, first, c, EXPRESSION, 0, c, less),
+        Token::Keyword(k) => at_keyword(tokens, pool, first, c, k, mode, less),
+        _ => around(tokens, pool, first, c, EXPRESSION, 0, c, mode, less),
     }
 }
 
@@ -73,10 +83,11 @@ fn at_keyword(
     first: usize,
     c: Cursor,
     k: Keyword,
+    mode: Mode,
     less: usize,
 ) -> Read
     requires { ⌜ (Ready (now tokens) (now pool) first c) × (tok (now tokens) c ≡ word (token.Keyword k)) ⌝ }
-    ensures { λ r. ⌜ Fresh one (spec.kept (now (tokens .entry)) (expression (now (tokens .entry)) less) (spec.statement (now (tokens .entry)) less)) (now (tokens .entry)) c first r (now (pool .entry)) (now (pool .exit)) ⌝ }
+    ensures { λ r. ⌜ Fresh one (spec.kept (by mode) (now (tokens .entry)) (expression (by mode) (now (tokens .entry)) less) (spec.statement (by mode) (now (tokens .entry)) less)) (now (tokens .entry)) c first r (now (pool .entry)) (now (pool .exit)) ⌝ }
 {
     let d = words::iterate(tokens, c);
     if goes_further(k) {
@@ -87,18 +98,18 @@ fn at_keyword(
     match k {
         Keyword::KBreak => alone(tokens, pool, first, c, BREAK, BREAK_WITHOUT_SEMICOLON),
         Keyword::KContinue => alone(tokens, pool, first, c, CONTINUE, CONTINUE_WITHOUT_SEMICOLON),
-        Keyword::KVar => var_statement(tokens, pool, first, d, less),
-        Keyword::KConst => const_statement(tokens, pool, first, d, less),
-        Keyword::KIf => if_statement(tokens, pool, first, c, less),
-        Keyword::KAssert => assert_statement(tokens, pool, first, c, less),
-        Keyword::KWhile => while_statement(tokens, pool, first, c, less),
-        Keyword::KReturn => return_statement(tokens, pool, first, c, less),
-        Keyword::KFunc => function(tokens, pool, first, d, less),
-        Keyword::KFor => for_loop(tokens, pool, first, c, less),
-        Keyword::KThrow => around(tokens, pool, first, d, THROW, 0, c, less),
-        Keyword::KTry => try_statement(tokens, pool, first, c, less),
-        Keyword::KForEach => for_each(tokens, pool, first, c, less),
-        _ => around(tokens, pool, first, c, EXPRESSION, 0, c, less),
+        Keyword::KVar => var_statement(tokens, pool, first, d, mode, less),
+        Keyword::KConst => const_statement(tokens, pool, first, d, mode, less),
+        Keyword::KIf => if_statement(tokens, pool, first, c, mode, less),
+        Keyword::KAssert => assert_statement(tokens, pool, first, c, mode, less),
+        Keyword::KWhile => while_statement(tokens, pool, first, c, mode, less),
+        Keyword::KReturn => return_statement(tokens, pool, first, c, mode, less),
+        Keyword::KFunc => function(tokens, pool, first, d, mode, less),
+        Keyword::KFor => for_loop(tokens, pool, first, c, mode, less),
+        Keyword::KThrow => around(tokens, pool, first, d, THROW, 0, c, mode, less),
+        Keyword::KTry => try_statement(tokens, pool, first, c, mode, less),
+        Keyword::KForEach => for_each(tokens, pool, first, c, mode, less),
+        _ => around(tokens, pool, first, c, EXPRESSION, 0, c, mode, less),
     }
 }
 
@@ -111,10 +122,11 @@ pub fn statements(
     head: u32,
     c: Cursor,
     close: Token,
+    mode: Mode,
     allow: usize,
 ) -> Read
     requires { ⌜ (Ready (now tokens) (now pool) first c) × (width * rows ≤ length (now pool)) ⌝ }
-    ensures { λ r. ⌜ Extends (spec.statements (now (tokens .entry)) (expression (now (tokens .entry)) allow) (spec.statement (now (tokens .entry)) allow) (word close) turns) (now (tokens .entry)) c first rows head r (now (pool .entry)) (now (pool .exit)) ⌝ }
+    ensures { λ r. ⌜ Extends (spec.statements (by mode) (now (tokens .entry)) (expression (by mode) (now (tokens .entry)) allow) (spec.statement (by mode) (now (tokens .entry)) allow) (word close) turns) (now (tokens .entry)) c first rows head r (now (pool .entry)) (now (pool .exit)) ⌝ }
 {
     let mut k = rows;
     let mut h = head;
@@ -123,7 +135,7 @@ pub fn statements(
         if words::current_symbol_is(tokens, d, Symbol::SSemiColon) {
             d = words::iterate(tokens, d);
         } else {
-            let r = one_behind(tokens, pool, first, k, d, allow);
+            let r = one_behind(tokens, pool, first, k, d, mode, allow);
             let Read::Tree(m, g, e) = r else {
                 return r;
             };
@@ -143,13 +155,14 @@ fn one_behind(
     first: usize,
     rows: usize,
     c: Cursor,
+    mode: Mode,
     allow: usize,
 ) -> Read
     requires { ⌜ (Ready (now tokens) (now pool) first c) × (width * rows ≤ length (now pool)) ⌝ }
-    ensures { λ r. ⌜ (Begun (now (tokens .entry)) c r) × (Behind many (spec.statement (now (tokens .entry)) allow) (now (tokens .entry)) c first rows r (now (pool .entry)) (now (pool .exit))) ⌝ }
+    ensures { λ r. ⌜ (Begun (now (tokens .entry)) c r) × (Behind many (spec.statement (by mode) (now (tokens .entry)) allow) (now (tokens .entry)) c first rows r (now (pool .entry)) (now (pool .exit))) ⌝ }
 {
     let i = rows::end(rows as u32);
-    let r = statement(tokens, &mut pool[i..], first + rows, c, allow);
+    let r = statement(tokens, &mut pool[i..], first + rows, c, mode, allow);
     let Read::Tree(k, h, d) = r else {
         return r;
     };
@@ -157,22 +170,22 @@ fn one_behind(
 }
 
 // parse_block_statement, whose opener comes next and may be any token.
-fn block(tokens: &[u16], pool: &mut [u32], first: usize, c: Cursor, less: usize) -> Read
+fn block(tokens: &[u16], pool: &mut [u32], first: usize, c: Cursor, mode: Mode, less: usize) -> Read
     requires { ⌜ Ready (now tokens) (now pool) first c ⌝ }
-    ensures { λ r. ⌜ Fresh one (spec.block (now (tokens .entry)) (expression (now (tokens .entry)) less) (spec.statement (now (tokens .entry)) less)) (now (tokens .entry)) c first r (now (pool .entry)) (now (pool .exit)) ⌝ }
+    ensures { λ r. ⌜ Fresh one (spec.block (by mode) (now (tokens .entry)) (expression (by mode) (now (tokens .entry)) less) (spec.statement (by mode) (now (tokens .entry)) less)) (now (tokens .entry)) c first r (now (pool .entry)) (now (pool .exit)) ⌝ }
 {
     let d = words::iterate(tokens, c);
     let e = words::iterate(tokens, d);
     if words::next_symbol_is(tokens, d, Symbol::SRBrace) {
         return put_row(pool, first, 0, e, BLOCK, 0, d, 0, 0, 0, 0);
     }
-    let r = statement(tokens, pool, first, e, less);
+    let r = statement(tokens, pool, first, e, mode, less);
     let Read::Tree(k, h, f) = r else {
         return r;
     };
     let g = words::iterate(tokens, f);
     let brace = Token::Operator(Symbol::SRBrace);
-    let q = statements(tokens, pool, first, k, h, g, brace, less);
+    let q = statements(tokens, pool, first, k, h, g, brace, mode, less);
     let Read::Tree(m, i, j) = q else {
         return q;
     };
@@ -186,20 +199,22 @@ fn block_behind(
     first: usize,
     rows: usize,
     c: Cursor,
+    mode: Mode,
     less: usize,
 ) -> Read
     requires { ⌜ (Ready (now tokens) (now pool) first c) × (width * rows ≤ length (now pool)) ⌝ }
-    ensures { λ r. ⌜ Behind one (spec.block (now (tokens .entry)) (expression (now (tokens .entry)) less) (spec.statement (now (tokens .entry)) less)) (now (tokens .entry)) c first rows r (now (pool .entry)) (now (pool .exit)) ⌝ }
+    ensures { λ r. ⌜ Behind one (spec.block (by mode) (now (tokens .entry)) (expression (by mode) (now (tokens .entry)) less) (spec.statement (by mode) (now (tokens .entry)) less)) (now (tokens .entry)) c first rows r (now (pool .entry)) (now (pool .exit)) ⌝ }
 {
     let i = rows::end(rows as u32);
-    let r = block(tokens, &mut pool[i..], first + rows, c, less);
+    let r = block(tokens, &mut pool[i..], first + rows, c, mode, less);
     let Read::Tree(k, h, d) = r else {
         return r;
     };
     Read::Tree(rows + k, h, d)
 }
 
-// A sign and an opening brace that come next, or else the refusals `missing` and `bare`; and the block, behind the first `rows` rows of the part.
+// A sign that comes next and an opening brace behind it, where it is due, or else the refusals `missing` and `bare`; and the block, behind the
+// first `rows` rows of the part.
 fn body(
     tokens: &[u16],
     pool: &mut [u32],
@@ -208,26 +223,35 @@ fn body(
     c: Cursor,
     sign: Symbol,
     missing: u32,
+    due: Due,
     bare: u32,
+    mode: Mode,
     less: usize,
 ) -> Read
     requires { ⌜ (Ready (now tokens) (now pool) first c) × (width * rows ≤ length (now pool)) ⌝ }
-    ensures { λ r. ⌜ Behind one (contract.body (now (tokens .entry)) (spec.block (now (tokens .entry)) (expression (now (tokens .entry)) less) (spec.statement (now (tokens .entry)) less)) (word (token.Operator sign)) missing bare) (now (tokens .entry)) c first rows r (now (pool .entry)) (now (pool .exit)) ⌝ }
+    ensures { λ r. ⌜ Behind one (contract.body due (now (tokens .entry)) (spec.block (by mode) (now (tokens .entry)) (expression (by mode) (now (tokens .entry)) less) (spec.statement (by mode) (now (tokens .entry)) less)) (word (token.Operator sign)) missing bare) (now (tokens .entry)) c first rows r (now (pool .entry)) (now (pool .exit)) ⌝ }
 {
     if !words::next_symbol_is(tokens, c, sign) {
         return Read::Refused(missing, c);
     }
     let d = words::iterate(tokens, c);
-    if !words::next_symbol_is(tokens, d, Symbol::SLBrace) {
+    if !words::comes(tokens, d, Symbol::SLBrace, due) {
         return Read::Refused(bare, d);
     }
-    block_behind(tokens, pool, first, rows, d, less)
+    block_behind(tokens, pool, first, rows, d, mode, less)
 }
 
 // parse_function_statement behind `func`, at the name.
-fn function(tokens: &[u16], pool: &mut [u32], first: usize, c: Cursor, less: usize) -> Read
+fn function(
+    tokens: &[u16],
+    pool: &mut [u32],
+    first: usize,
+    c: Cursor,
+    mode: Mode,
+    less: usize,
+) -> Read
     requires { ⌜ Ready (now tokens) (now pool) first c ⌝ }
-    ensures { λ r. ⌜ Fresh one (spec.function (now (tokens .entry)) (expression (now (tokens .entry)) less) (spec.statement (now (tokens .entry)) less)) (now (tokens .entry)) c first r (now (pool .entry)) (now (pool .exit)) ⌝ }
+    ensures { λ r. ⌜ Fresh one (spec.function (by mode) (now (tokens .entry)) (expression (by mode) (now (tokens .entry)) less) (spec.statement (by mode) (now (tokens .entry)) less)) (now (tokens .entry)) c first r (now (pool .entry)) (now (pool .exit)) ⌝ }
 {
     if !words::is_identifier(tokens, c) {
         return Read::Refused(FUNC_WITHOUT_NAME, c);
@@ -235,7 +259,7 @@ fn function(tokens: &[u16], pool: &mut [u32], first: usize, c: Cursor, less: usi
     if !words::next_symbol_is(tokens, c, Symbol::SLParen) {
         return Read::Refused(INVALID_SYNTAX, c);
     }
-    let r = list_expr(tokens, pool, first, words::iterate(tokens, c), less);
+    let r = list_expr(tokens, pool, first, words::iterate(tokens, c), mode, less);
     let Read::Tree(k, h, d) = r else {
         return r;
     };
@@ -248,7 +272,9 @@ fn function(tokens: &[u16], pool: &mut [u32], first: usize, c: Cursor, less: usi
         d,
         paren,
         INVALID_SYNTAX,
+        Due::Always,
         INVALID_SYNTAX,
+        mode,
         less,
     );
     let Read::Tree(m, g, f) = q else {
@@ -258,15 +284,30 @@ fn function(tokens: &[u16], pool: &mut [u32], first: usize, c: Cursor, less: usi
 }
 
 // parse_if_statement
-fn if_statement(tokens: &[u16], pool: &mut [u32], first: usize, c: Cursor, less: usize) -> Read
+fn if_statement(
+    tokens: &[u16],
+    pool: &mut [u32],
+    first: usize,
+    c: Cursor,
+    mode: Mode,
+    less: usize,
+) -> Read
     requires { ⌜ Ready (now tokens) (now pool) first c ⌝ }
-    ensures { λ r. ⌜ Fresh one (spec.if (now (tokens .entry)) (expression (now (tokens .entry)) less) (spec.statement (now (tokens .entry)) less)) (now (tokens .entry)) c first r (now (pool .entry)) (now (pool .exit)) ⌝ }
+    ensures { λ r. ⌜ Fresh one (spec.if (by mode) (now (tokens .entry)) (expression (by mode) (now (tokens .entry)) less) (spec.statement (by mode) (now (tokens .entry)) less)) (now (tokens .entry)) c first r (now (pool .entry)) (now (pool .exit)) ⌝ }
 {
     let d = words::iterate(tokens, c);
     if !words::next_symbol_is(tokens, c, Symbol::SLParen) {
         return Read::Refused(INVALID_SYNTAX, d);
     }
-    let r = expression(tokens, pool, first, words::iterate(tokens, d), 0, less);
+    let r = expression(
+        tokens,
+        pool,
+        first,
+        words::iterate(tokens, d),
+        0,
+        mode,
+        less,
+    );
     let Read::Tree(k0, h0, e0) = r else {
         return r;
     };
@@ -279,13 +320,15 @@ fn if_statement(tokens: &[u16], pool: &mut [u32], first: usize, c: Cursor, less:
         e0,
         paren,
         INVALID_TOKEN,
+        Due::Always,
         IF_WITHOUT_BODY,
+        mode,
         less,
     );
     let Read::Tree(k1, h1, e1) = r1 else {
         return r1;
     };
-    let r2 = else_block(tokens, pool, first, k1, e1, less);
+    let r2 = else_block(tokens, pool, first, k1, e1, mode, less);
     let Read::Tree(k2, h2, e2) = r2 else {
         return r2;
     };
@@ -299,79 +342,136 @@ fn else_block(
     first: usize,
     rows: usize,
     c: Cursor,
+    mode: Mode,
     less: usize,
 ) -> Read
     requires { ⌜ (Ready (now tokens) (now pool) first c) × (width * rows ≤ length (now pool)) ⌝ }
-    ensures { λ r. ⌜ Behind many (spec.else (now (tokens .entry)) (expression (now (tokens .entry)) less) (spec.statement (now (tokens .entry)) less)) (now (tokens .entry)) c first rows r (now (pool .entry)) (now (pool .exit)) ⌝ }
+    ensures { λ r. ⌜ Behind many (spec.else (by mode) (now (tokens .entry)) (expression (by mode) (now (tokens .entry)) less) (spec.statement (by mode) (now (tokens .entry)) less)) (now (tokens .entry)) c first rows r (now (pool .entry)) (now (pool .exit)) ⌝ }
 {
     if !words::next_keyword_is(tokens, c, Keyword::KElse) {
         return Read::Tree(rows, 0, c);
     }
     let d = words::iterate(tokens, c);
-    if !words::next_symbol_is(tokens, d, Symbol::SLBrace) {
-        return Read::Refused(INVALID_SYNTAX, d);
-    }
-    block_behind(tokens, pool, first, rows, d, less)
+    braced(
+        tokens,
+        pool,
+        first,
+        rows,
+        d,
+        Due::Always,
+        INVALID_SYNTAX,
+        mode,
+        less,
+    )
 }
 
 // parse_while_statement
-fn while_statement(tokens: &[u16], pool: &mut [u32], first: usize, c: Cursor, less: usize) -> Read
+fn while_statement(
+    tokens: &[u16],
+    pool: &mut [u32],
+    first: usize,
+    c: Cursor,
+    mode: Mode,
+    less: usize,
+) -> Read
     requires { ⌜ Ready (now tokens) (now pool) first c ⌝ }
-    ensures { λ r. ⌜ Fresh one (spec.while (now (tokens .entry)) (expression (now (tokens .entry)) less) (spec.statement (now (tokens .entry)) less)) (now (tokens .entry)) c first r (now (pool .entry)) (now (pool .exit)) ⌝ }
+    ensures { λ r. ⌜ Fresh one (spec.while (by mode) (now (tokens .entry)) (expression (by mode) (now (tokens .entry)) less) (spec.statement (by mode) (now (tokens .entry)) less)) (now (tokens .entry)) c first r (now (pool .entry)) (now (pool .exit)) ⌝ }
 {
     if !words::next_symbol_is(tokens, c, Symbol::SLParen) {
         return Read::Refused(INVALID_SYNTAX, c);
     }
     let d = words::iterate(tokens, words::iterate(tokens, c));
-    let r = expression(tokens, pool, first, d, 0, less);
+    let r = expression(tokens, pool, first, d, 0, mode, less);
     let Read::Tree(k, h, e) = r else {
         return r;
     };
-    let q = open_body(tokens, pool, first, k, e, Symbol::SRparen, less);
+    let paren = Symbol::SRparen;
+    let q = body(
+        tokens,
+        pool,
+        first,
+        k,
+        e,
+        paren,
+        INVALID_SYNTAX,
+        Due::By(mode),
+        WRONG_SIGN,
+        mode,
+        less,
+    );
     let Read::Tree(m, g, f) = q else {
         return q;
     };
     put_row(pool, first, m, f, WHILE, 0, c, h, g, 0, 0)
 }
 
-// A sign that comes next, and the block after it, whose opener may be any token.
-fn open_body(
+// parse_for_each_statement
+fn for_each(
     tokens: &[u16],
     pool: &mut [u32],
     first: usize,
-    rows: usize,
     c: Cursor,
-    sign: Symbol,
+    mode: Mode,
     less: usize,
 ) -> Read
-    requires { ⌜ (Ready (now tokens) (now pool) first c) × (width * rows ≤ length (now pool)) ⌝ }
-    ensures { λ r. ⌜ Behind one (contract.open-body (now (tokens .entry)) (spec.block (now (tokens .entry)) (expression (now (tokens .entry)) less) (spec.statement (now (tokens .entry)) less)) (word (token.Operator sign))) (now (tokens .entry)) c first rows r (now (pool .entry)) (now (pool .exit)) ⌝ }
-{
-    if !words::next_symbol_is(tokens, c, sign) {
-        return Read::Refused(INVALID_SYNTAX, c);
-    }
-    block_behind(tokens, pool, first, rows, words::iterate(tokens, c), less)
-}
-
-// parse_for_each_statement
-fn for_each(tokens: &[u16], pool: &mut [u32], first: usize, c: Cursor, less: usize) -> Read
     requires { ⌜ Ready (now tokens) (now pool) first c ⌝ }
-    ensures { λ r. ⌜ Fresh one (spec.foreach (now (tokens .entry)) (expression (now (tokens .entry)) less) (spec.statement (now (tokens .entry)) less)) (now (tokens .entry)) c first r (now (pool .entry)) (now (pool .exit)) ⌝ }
+    ensures { λ r. ⌜ Fresh one (spec.foreach (by mode) (now (tokens .entry)) (expression (by mode) (now (tokens .entry)) less) (spec.statement (by mode) (now (tokens .entry)) less)) (now (tokens .entry)) c first r (now (pool .entry)) (now (pool .exit)) ⌝ }
 {
-    let r0 = expression(tokens, pool, first, words::iterate(tokens, c), 0, less);
+    let r0 = expression(
+        tokens,
+        pool,
+        first,
+        words::iterate(tokens, c),
+        0,
+        mode,
+        less,
+    );
     let Read::Tree(k0, h0, e0) = r0 else {
         return r0;
     };
     let comma = Token::Operator(Symbol::SComma);
-    let r1 = behind_sign(tokens, pool, first, k0, e0, comma, INVALID_SYNTAX, less);
+    let r1 = behind_sign(
+        tokens,
+        pool,
+        first,
+        k0,
+        e0,
+        comma,
+        INVALID_SYNTAX,
+        mode,
+        less,
+    );
     let Read::Tree(k1, h1, e1) = r1 else {
         return r1;
     };
-    let r2 = behind_sign(tokens, pool, first, k1, e1, comma, INVALID_SYNTAX, less);
+    let r2 = behind_sign(
+        tokens,
+        pool,
+        first,
+        k1,
+        e1,
+        comma,
+        INVALID_SYNTAX,
+        mode,
+        less,
+    );
     let Read::Tree(k2, h2, e2) = r2 else {
         return r2;
     };
-    let r3 = open_body(tokens, pool, first, k2, e2, Symbol::SImpl, less);
+    let arrow = Symbol::SImpl;
+    let r3 = body(
+        tokens,
+        pool,
+        first,
+        k2,
+        e2,
+        arrow,
+        INVALID_SYNTAX,
+        Due::By(mode),
+        WRONG_SIGN,
+        mode,
+        less,
+    );
     let Read::Tree(k3, h3, e3) = r3 else {
         return r3;
     };
@@ -379,16 +479,41 @@ fn for_each(tokens: &[u16], pool: &mut [u32], first: usize, c: Cursor, less: usi
 }
 
 // parse_for_loop_statement
-fn for_loop(tokens: &[u16], pool: &mut [u32], first: usize, c: Cursor, less: usize) -> Read
+fn for_loop(
+    tokens: &[u16],
+    pool: &mut [u32],
+    first: usize,
+    c: Cursor,
+    mode: Mode,
+    less: usize,
+) -> Read
     requires { ⌜ Ready (now tokens) (now pool) first c ⌝ }
-    ensures { λ r. ⌜ Fresh one (spec.for (now (tokens .entry)) (expression (now (tokens .entry)) less) (spec.statement (now (tokens .entry)) less)) (now (tokens .entry)) c first r (now (pool .entry)) (now (pool .exit)) ⌝ }
+    ensures { λ r. ⌜ Fresh one (spec.for (by mode) (now (tokens .entry)) (expression (by mode) (now (tokens .entry)) less) (spec.statement (by mode) (now (tokens .entry)) less)) (now (tokens .entry)) c first r (now (pool .entry)) (now (pool .exit)) ⌝ }
 {
-    let r0 = expression(tokens, pool, first, words::iterate(tokens, c), 0, less);
+    let r0 = expression(
+        tokens,
+        pool,
+        first,
+        words::iterate(tokens, c),
+        0,
+        mode,
+        less,
+    );
     let Read::Tree(k0, h0, e0) = r0 else {
         return r0;
     };
     let within = Token::Keyword(Keyword::KIn);
-    let r1 = behind_sign(tokens, pool, first, k0, e0, within, INVALID_SYNTAX, less);
+    let r1 = behind_sign(
+        tokens,
+        pool,
+        first,
+        k0,
+        e0,
+        within,
+        INVALID_SYNTAX,
+        mode,
+        less,
+    );
     let Read::Tree(k1, h1, e1) = r1 else {
         return r1;
     };
@@ -401,7 +526,9 @@ fn for_loop(tokens: &[u16], pool: &mut [u32], first: usize, c: Cursor, less: usi
         e1,
         arrow,
         INVALID_SYNTAX,
+        Due::Always,
         INVALID_SYNTAX,
+        mode,
         less,
     );
     let Read::Tree(k2, h2, e2) = r2 else {
@@ -417,54 +544,106 @@ fn finally_block(
     first: usize,
     rows: usize,
     c: Cursor,
+    mode: Mode,
     less: usize,
 ) -> Read
     requires { ⌜ (Ready (now tokens) (now pool) first c) × (width * rows ≤ length (now pool)) ⌝ }
-    ensures { λ r. ⌜ Behind many (spec.finally (now (tokens .entry)) (expression (now (tokens .entry)) less) (spec.statement (now (tokens .entry)) less)) (now (tokens .entry)) c first rows r (now (pool .entry)) (now (pool .exit)) ⌝ }
+    ensures { λ r. ⌜ Behind many (spec.finally (by mode) (now (tokens .entry)) (expression (by mode) (now (tokens .entry)) less) (spec.statement (by mode) (now (tokens .entry)) less)) (now (tokens .entry)) c first rows r (now (pool .entry)) (now (pool .exit)) ⌝ }
 {
     if !words::next_keyword_is(tokens, c, Keyword::KFinally) {
         return Read::Tree(rows, 0, c);
     }
-    block_behind(tokens, pool, first, rows, words::iterate(tokens, c), less)
+    let d = words::iterate(tokens, c);
+    braced(
+        tokens,
+        pool,
+        first,
+        rows,
+        d,
+        Due::By(mode),
+        WRONG_SIGN,
+        mode,
+        less,
+    )
 }
 
-// An opening brace that comes next, and its block: that of a try, and that of its catch.
+// An opening brace that comes next, where it is due, or else the refusal `number`; and its block, behind the first `rows` rows of the part.
 fn braced(
     tokens: &[u16],
     pool: &mut [u32],
     first: usize,
     rows: usize,
     c: Cursor,
+    due: Due,
+    number: u32,
+    mode: Mode,
     less: usize,
 ) -> Read
     requires { ⌜ (Ready (now tokens) (now pool) first c) × (width * rows ≤ length (now pool)) ⌝ }
-    ensures { λ r. ⌜ Behind one (contract.braced (now (tokens .entry)) (spec.block (now (tokens .entry)) (expression (now (tokens .entry)) less) (spec.statement (now (tokens .entry)) less))) (now (tokens .entry)) c first rows r (now (pool .entry)) (now (pool .exit)) ⌝ }
+    ensures { λ r. ⌜ Behind one (contract.braced due (now (tokens .entry)) (spec.block (by mode) (now (tokens .entry)) (expression (by mode) (now (tokens .entry)) less) (spec.statement (by mode) (now (tokens .entry)) less)) number) (now (tokens .entry)) c first rows r (now (pool .entry)) (now (pool .exit)) ⌝ }
 {
-    if !words::next_symbol_is(tokens, c, Symbol::SLBrace) {
-        return Read::Refused(INVALID_SYNTAX, c);
+    if !words::comes(tokens, c, Symbol::SLBrace, due) {
+        return Read::Refused(number, c);
     }
-    block_behind(tokens, pool, first, rows, c, less)
+    block_behind(tokens, pool, first, rows, c, mode, less)
 }
 
 // parse_try_statement
-fn try_statement(tokens: &[u16], pool: &mut [u32], first: usize, c: Cursor, less: usize) -> Read
+fn try_statement(
+    tokens: &[u16],
+    pool: &mut [u32],
+    first: usize,
+    c: Cursor,
+    mode: Mode,
+    less: usize,
+) -> Read
     requires { ⌜ Ready (now tokens) (now pool) first c ⌝ }
-    ensures { λ r. ⌜ Fresh one (spec.try (now (tokens .entry)) (expression (now (tokens .entry)) less) (spec.statement (now (tokens .entry)) less)) (now (tokens .entry)) c first r (now (pool .entry)) (now (pool .exit)) ⌝ }
+    ensures { λ r. ⌜ Fresh one (spec.try (by mode) (now (tokens .entry)) (expression (by mode) (now (tokens .entry)) less) (spec.statement (by mode) (now (tokens .entry)) less)) (now (tokens .entry)) c first r (now (pool .entry)) (now (pool .exit)) ⌝ }
 {
-    let r0 = braced(tokens, pool, first, 0, c, less);
+    let r0 = braced(
+        tokens,
+        pool,
+        first,
+        0,
+        c,
+        Due::Always,
+        INVALID_SYNTAX,
+        mode,
+        less,
+    );
     let Read::Tree(k0, h0, e0) = r0 else {
         return r0;
     };
     let caught = Token::Keyword(Keyword::KCatch);
-    let r1 = behind_sign(tokens, pool, first, k0, e0, caught, TRY_WITHOUT_CATCH, less);
+    let r1 = behind_sign(
+        tokens,
+        pool,
+        first,
+        k0,
+        e0,
+        caught,
+        TRY_WITHOUT_CATCH,
+        mode,
+        less,
+    );
     let Read::Tree(k1, h1, e1) = r1 else {
         return r1;
     };
-    let r2 = braced(tokens, pool, first, k1, e1, less);
+    let r2 = braced(
+        tokens,
+        pool,
+        first,
+        k1,
+        e1,
+        Due::Always,
+        INVALID_SYNTAX,
+        mode,
+        less,
+    );
     let Read::Tree(k2, h2, e2) = r2 else {
         return r2;
     };
-    let r3 = finally_block(tokens, pool, first, k2, e2, less);
+    let r3 = finally_block(tokens, pool, first, k2, e2, mode, less);
     let Read::Tree(k3, h3, e3) = r3 else {
         return r3;
     };

@@ -8,6 +8,7 @@ use rows::MOST;
 use rows::WIDTH;
 use stream::half;
 use stream::read;
+use words::mode_of;
 
 // The most words of an array and of a pool, which has two rows more than are ever used, and the bytes of such a case with its
 // record.
@@ -22,6 +23,9 @@ const DIFFERS: u8 = 0;
 
 const SKIPPED: u8 = 2;
 
+// The first of the entries in strict mode.
+const STRICT: u16 = 3;
+
 // The tokens are those of a case.
 fn fill(bytes: &[u8], tokens: &mut [u16]) {
     let mut i = 0;
@@ -35,10 +39,11 @@ fn fill(bytes: &[u8], tokens: &mut [u16]) {
 fn given(bytes: &[u8], tokens: &[u16], pool: &mut [u32]) -> Answer {
     let entry = half(bytes, stream::ENTRY);
     let start = half(bytes, stream::START) as usize;
+    let mode = mode_of(entry >= STRICT);
     match entry {
-        0 => parser::one_expression(tokens, pool, start),
-        1 => parser::one_statement(tokens, pool, start),
-        _ => parser::whole_script(tokens, pool),
+        0 | 3 => parser::one_expression(tokens, pool, start, mode),
+        1 | 4 => parser::one_statement(tokens, pool, start, mode),
+        _ => parser::whole_script(tokens, pool, mode),
     }
 }
 

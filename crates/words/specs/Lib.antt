@@ -1,2 +1,3 @@
 -- What the contracts say on top of the definition of the language.
 pub mod Array
+pub mod Modes

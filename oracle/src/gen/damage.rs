@@ -33,7 +33,8 @@ pub fn damage(rng: &mut Rng, words: &mut Vec<u16>, all: &[u16]) {
     }
 }
 
-fn any_word(rng: &mut Rng, all: &[u16]) -> u16 {
+/// A random word, every other time one of the shapers.
+pub fn any_word(rng: &mut Rng, all: &[u16]) -> u16 {
     if rng.chance(1, 2) {
         rng.pick(&SHAPERS)
     } else {

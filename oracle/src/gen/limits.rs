@@ -12,7 +12,7 @@ pub fn fixed() -> Vec<Case> {
     let mut cases = vec![];
     for entry in [Entry::Expression, Entry::Statement, Entry::Script] {
         let mut add = |start: usize, pool: usize, tokens: &[u16]| {
-            cases.push(Case { entry, start, pool, tokens: tokens.to_vec() });
+            cases.push(Case::old(entry, start, pool, tokens.to_vec()));
         };
         for pool in 0..=2 * ROW + 1 {
             add(0, pool, &[EOF]);

@@ -245,10 +245,11 @@ impl Reader<'_> {
         self.build(kinds::INDEX, 0, place, &[left, index])
     }
 
-    /// The closer is whatever token comes next, if there are arguments.
+    /// The closer is whatever token comes next, if there are arguments; in strict mode it must fit.
     fn parse_call_expression(&mut self, function: u32) -> Read<u32> {
         let place = self.place();
         let arguments = self.parse_list_expr()?;
+        self.want_sign(RPAREN)?;
         self.iterate();
         self.build(kinds::CALL, 0, place, &[function, arguments])
     }

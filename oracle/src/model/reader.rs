@@ -1,5 +1,6 @@
 //! The reader's state: the cursor, the count of open readers, and the rows.
 use super::pool::Pool;
+use super::{Mode, NO_ROW, WRONG_SIGN};
 use crate::words;
 
 /// The most calls of `parse_expression` and `parse_statement` open at once.
@@ -15,13 +16,14 @@ pub type Read<T> = Result<T, Refusal>;
 pub struct Reader<'a> {
     tokens: &'a [u16],
     at: usize,
+    mode: Mode,
     open: u32,
     pool: Pool<'a>,
 }
 
 impl<'a> Reader<'a> {
-    pub fn new(tokens: &'a [u16], at: usize, pool: &'a mut [u32]) -> Reader<'a> {
-        Reader { tokens, at, open: 0, pool: Pool::new(pool) }
+    pub fn new(tokens: &'a [u16], at: usize, mode: Mode, pool: &'a mut [u32]) -> Reader<'a> {
+        Reader { tokens, at, mode, open: 0, pool: Pool::new(pool) }
     }
 
     pub fn rows_used(&self) -> u32 {
@@ -62,6 +64,14 @@ impl<'a> Reader<'a> {
         }
     }
 
+    /// In strict mode, refuses unless the next token is `word`; in the old mode any token is right.
+    pub fn want_sign(&self, word: u16) -> Read<()> {
+        match self.mode {
+            Mode::Old => Ok(()),
+            Mode::Strict => self.want_next(word, WRONG_SIGN),
+        }
+    }
+
     /// Eats the next token if it is a semicolon.
     pub fn is_terminated(&mut self) -> bool {
         let found = self.next() == words::SEMICOLON;
@@ -85,7 +95,7 @@ impl<'a> Reader<'a> {
     pub fn build(&mut self, kind: u32, mark: u32, place: u32, children: &[u32]) -> Read<u32> {
         match self.pool.build(kind, mark, place, children) {
             Some(reference) => Ok(reference),
-            None => self.refuse(3),
+            None => self.refuse(NO_ROW),
         }
     }
 

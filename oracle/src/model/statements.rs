@@ -55,6 +55,12 @@ impl Reader<'_> {
         self.parse_block_statement()
     }
 
+    /// Reads a block whose opener is whatever token comes next; in strict mode it must be a brace.
+    fn parse_any_block(&mut self) -> Read<u32> {
+        self.want_sign(LBRACE)?;
+        self.parse_block_statement()
+    }
+
     /// One statement; an Empty token is the reference 0.
     pub fn parse_statement(&mut self) -> Read<u32> {
         self.nested(|reader| match reader.current() {
@@ -197,7 +203,7 @@ impl Reader<'_> {
         let target = self.parse_behind(LPAREN, 10)?;
         self.want_next(RPAREN, 10)?;
         self.iterate();
-        let block = self.parse_block_statement()?;
+        let block = self.parse_any_block()?;
         self.build(kinds::WHILE, 0, place, &[target, block])
     }
 
@@ -220,7 +226,7 @@ impl Reader<'_> {
         let element = self.parse_behind(COMMA, 10)?;
         self.want_next(IMPL, 10)?;
         self.iterate();
-        let block = self.parse_block_statement()?;
+        let block = self.parse_any_block()?;
         self.build(kinds::FOREACH, 0, place, &[iterator, index, element, block])
     }
 
@@ -232,7 +238,7 @@ impl Reader<'_> {
         let mut last = 0;
         if self.next() == FINALLY {
             self.iterate();
-            last = self.parse_block_statement()?;
+            last = self.parse_any_block()?;
         }
         self.build(kinds::TRY, 0, place, &[block, exception, catch, last])
     }

@@ -1,7 +1,7 @@
 //! Helpers of the tests: token words from text, and answers as text.
 #![allow(dead_code)] // each test file uses some of them
 use shigthapul::{one_expression, one_statement, whole_script};
-use shigthapul::{Keyword, Node, Refusal, Symbol, Token, Tree, ROW_WORDS};
+use shigthapul::{Keyword, Mode, Node, Refusal, Symbol, Token, Tree, ROW_WORDS};
 use std::fs;
 use std::path::PathBuf;
 
@@ -59,21 +59,26 @@ fn plain(item: &str) -> Token {
     }
 }
 
-/// Reads tokens by an entry's letter: X one expression, S one statement, W a whole script.
-pub fn read<'a>(entry: &str, tokens: &[u16], pool: &'a mut [u32]) -> Result<Tree<'a>, Refusal> {
+/// Reads tokens in a mode, by an entry's letter: X one expression, S one statement, W a whole script.
+pub fn read<'a>(
+    entry: &str,
+    tokens: &[u16],
+    pool: &'a mut [u32],
+    mode: Mode,
+) -> Result<Tree<'a>, Refusal> {
     match entry {
-        "X" => one_expression(tokens, pool, 0),
-        "S" => one_statement(tokens, pool, 0),
-        "W" => whole_script(tokens, pool),
+        "X" => one_expression(tokens, pool, 0, mode),
+        "S" => one_statement(tokens, pool, 0, mode),
+        "W" => whole_script(tokens, pool, mode),
         _ => panic!("no entry {}", entry),
     }
 }
 
 /// Reads tokens into a dirty pool with so many rows and three words more, and gives the answer and
 /// the words of the tree. Every word that is no row of the tree must have become zero.
-pub fn answer(entry: &str, tokens: &[u16], rows: usize) -> String {
+pub fn answer(entry: &str, tokens: &[u16], rows: usize, mode: Mode) -> String {
     let mut pool = vec![DIRT; ROW_WORDS * rows + 3];
-    let (used, text) = match read(entry, tokens, &mut pool) {
+    let (used, text) = match read(entry, tokens, &mut pool, mode) {
         Err(refusal) => (0, format!("no {} {}", refusal.number(), refusal.place)),
         Ok(tree) => (tree.len(), format!("ok {} {}", tree.last_place(), line(tree.root()))),
     };

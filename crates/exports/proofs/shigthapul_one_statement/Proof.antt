@@ -1,8 +1,11 @@
--- `exports::shigthapul_one_statement` meets its contract: the entry answers, and its answer is written.
+-- `exports::shigthapul_one_statement` meets its contract: the entry answers in the flag's mode, and its answer is written.
 use mathlib.Core.Path.{_∙_}
 use borrow.Author.Needs.{needs}
 use Rattle.exports.proofs.shigthapul_one_statement.Statement.{statement}
 use Rattle.exports.proofs.shigthapul_one_statement.Tie as tie
+
+mode-of-requires : tie.Need-mode-of-requires
+mode-of-requires c κs = search needs
 
 one-statement-requires : tie.Need-one-statement-requires
 one-statement-requires c κs = search needs
@@ -19,13 +22,16 @@ same-length-2 c = search needs
 returns : tie.Need-returns
 returns c =
     let at-put = c .before .before in
-    let entered = at-put .before .before .before .before .one-statement .ensures in
-    (at-put .put-answer .ensures ∙ rw (entered .answer), entered .left)
+    let at-read = at-put .before .before .before .before in
+    let entered = at-read .one-statement .ensures in
+    let mode = at-read .before .mode-of .ensures in
+    (at-put .put-answer .ensures ∙ rw (entered .answer, mode), rw (entered .left, mode))
 
 pub shigthapul-one-statement-spec : {M : Type 1} → statement M
 shigthapul-one-statement-spec =
     tie.close
     (tie.spec
+    mode-of-requires
     one-statement-requires
     put-answer-requires
     same-length

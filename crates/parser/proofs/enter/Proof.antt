@@ -53,7 +53,7 @@ returns : tie.Need-returns
 unfolding enters
 returns c =
     let b = begins (c .before .before .before .before .before .before .before .before .before .before .before .before .before .before .before .before .before .before .before .before .args .tokens .now) (c .before .before .before .before .before .before .before .before .before .before .before .before .before .before .before .before .before .before .before .before .args .start) (sym (c .before .before .before .before .before .before .before .before .before .before .before .before .before .check .ensures) ∙ c .before .before .before .before .before .before .before .before .before .before .before .s .given .1) in
-    finished (length (c .before .before .before .before .before .before .before .before .before .before .before .before .before .before .before .before .before .before .before .before .args .pool .now)) (c .before .before .before .before .before .before .before .before .end .result) (c .before .before .before .before .before .before .before .before .before .before .before .before .before .before .before .before .clear .ensures) (c .before .before .before .before .before .before .before .before .end .ensures ∙ ap (λ (i : ℕ). width * i) (c .before .before .before .before .before .before .before .before .before .count .ensures ∙ ap rows (c .before .before .before .before .before .before .before .before .before .before .before .before .before .before .before .before .clear .kept .0))) (alone-by (passed _ (b .0)) (reads-alone _ _ _ _)) (c .before .before .before .before .before .before .read .kept .1 .0)
+    finished (length (c .before .before .before .before .before .before .before .before .before .before .before .before .before .before .before .before .before .before .before .before .args .pool .now)) (c .before .before .before .before .before .before .before .before .end .result) (c .before .before .before .before .before .before .before .before .before .before .before .before .before .before .before .before .clear .ensures) (c .before .before .before .before .before .before .before .before .end .ensures ∙ ap (λ (i : ℕ). width * i) (c .before .before .before .before .before .before .before .before .before .count .ensures ∙ ap rows (c .before .before .before .before .before .before .before .before .before .before .before .before .before .before .before .before .clear .kept .0))) (alone-by (passed _ (b .0)) (reads-alone _ _ _ _ _)) (c .before .before .before .before .before .before .read .kept .1 .0)
     (by-eq (passed _ (b .0)) (rw (b .1, all-rows (length (c .before .before .before .before .before .before .before .before .before .before .before .before .before .before .before .before .before .before .before .before .args .pool .now)) (lent-zeros (c .before .before .before .before .before .before .before .before .end .result) (length (c .before .before .before .before .before .before .before .before .before .before .before .before .before .before .before .before .before .before .before .before .args .pool .now)) (c .before .before .before .before .before .before .before .before .before .before .before .before .before .before .before .before .clear .ensures) (omega (arith, c .before .before .before .before .before .before .before .before .end .ensures ∙ ap (λ (i : ℕ). width * i) (c .before .before .before .before .before .before .before .before .before .count .ensures ∙ ap rows (c .before .before .before .before .before .before .before .before .before .before .before .before .before .before .before .before .clear .kept .0)), few-words (length (c .before .before .before .before .before .before .before .before .before .before .before .before .before .before .before .before .before .before .before .before .args .pool .now)))) ∙ ap (λ (i : ℕ). replicate {A = ℕ} i 0) (c .before .before .before .before .before .before .before .before .end .ensures ∙ ap (λ (i : ℕ). width * i) (c .before .before .before .before .before .before .before .before .before .count .ensures ∙ ap rows (c .before .before .before .before .before .before .before .before .before .before .before .before .before .before .before .before .clear .kept .0))))) at (c .before .before .before .before .before .before .read .ensures))) (c .before .before .finish .ensures .0) (c .before .before .finish .ensures .1)
 
 same-length-2 : tie.Need-same-length-2

@@ -11,7 +11,7 @@ same-length : tie.Need-same-length
 same-length c = search needs
 
 returns : tie.Need-returns
-returns c = rw (whole-enters _ _) (c .before .before .enter .ensures)
+returns c = rw (whole-enters _ _ _) (c .before .before .enter .ensures)
 
 pub whole-script-spec : {M : Type 1} → statement M
 whole-script-spec =

@@ -234,10 +234,10 @@ pub +around+array+at-keyword+at-operator+behind+call+climb+entries+expression+ha
     (behind-needs.enum-told t)
     (behind-needs.same-length t)
     (behind-needs.returns t)
-    (behind-needs.add-t15 t)
+    (behind-needs.add-t16 t)
     (behind-needs.same-length-2 t)
     (behind-needs.returns-2 t))
-    (λ t. call-lts.spec (next-symbol-is-reads.Asked, next-symbol-is-reads.Learnt, iterate-reads.Asked, iterate-reads.Learnt, put-row-reads.Asked, put-row-reads.Learnt, list-behind-below t, list-behind-reads.Post) (call-at t) call-reads.Post
+    (λ t. call-lts.spec (next-symbol-is-reads.Asked, next-symbol-is-reads.Learnt, iterate-reads.Asked, iterate-reads.Learnt, put-row-reads.Asked, put-row-reads.Learnt, list-behind-below t, list-behind-reads.Post, closed-reads.Asked, closed-reads.Learnt) (call-at t) call-reads.Post
     (call-needs.next-symbol-is-requires t)
     (call-needs.iterate-requires t)
     (call-needs.put-row-requires t)
@@ -248,8 +248,7 @@ pub +around+array+at-keyword+at-operator+behind+call+climb+entries+expression+ha
     (call-needs.enum-told t)
     (call-needs.same-length-2 t)
     (call-needs.returns-2 t)
-    (call-needs.iterate-requires-2 t)
-    (call-needs.put-row-requires-2 t)
+    (call-needs.closed-requires t)
     (call-needs.same-length-3 t)
     (call-needs.returns-3 t))
     (λ t. climb-lts.spec (next-reads.Asked, next-reads.Learnt, goes-on-reads.Asked, goes-on-reads.Learnt, iterate-reads.Asked, iterate-reads.Learnt, operation-below t, operation-reads.Post, passed-reads.Asked, passed-reads.Learnt) (climb-at t) climb-reads.Post climb-needs.Inv-loop climb-needs.μ-loop
@@ -384,7 +383,7 @@ pub +around+array+at-keyword+at-operator+behind+call+climb+entries+expression+ha
     (list-behind-needs.enum-told t)
     (list-behind-needs.same-length t)
     (list-behind-needs.returns t)
-    (list-behind-needs.add-t13 t)
+    (list-behind-needs.add-t14 t)
     (list-behind-needs.same-length-2 t)
     (list-behind-needs.returns-2 t))
     (λ t. list-expr-lts.spec (next-symbol-is-reads.Asked, next-symbol-is-reads.Learnt, iterate-reads.Asked, iterate-reads.Learnt, expression-below t, expression-reads.Post, entries-below t, entries-reads.Post) (list-expr-at t) list-expr-reads.Post

@@ -10,6 +10,8 @@ use Rattle.grammar.specs.Parsed.{refused, read, Reader, build, AssertWithoutAct
 use Rattle.grammar.specs.Expressions.{Rec, expression}
 use Rattle.grammar.specs.Statements.{assert}
 use Rattle.grammar.specs.Statements as spec
+use Rattle.grammar.specs.Rules.{Rules}
+use Rattle.words.specs.Modes.{by}
 use Rattle.parser.specs.Contracts.{behind-sign}
 use Rattle.parser.specs.Meets.{of-node}
 use Rattle.parser.proofs.Answers.{taken, TakenOf, by-eq, refuses, need-met, need-failed, sooner, Starts, starts-at, goes, pass-on}
@@ -20,23 +22,23 @@ use Rattle.parser.proofs.simple.assert_statement.Statement.{statement}
 use Rattle.parser.proofs.simple.assert_statement.Tie as tie
 
 -- The definition, one reading after another.
-module _ (ts : List ℕ) (expr : Rec) (stmt : Reader Trees) (start room : ℕ) {d : ℕ} (i : d ≡ step ts start) where
-  unfoldable first : Starts (assert ts expr stmt start room) (expr Zero d room)
+module _ (rules : Rules) (ts : List ℕ) (expr : Rec) (stmt : Reader Trees) (start room : ℕ) {d : ℕ} (i : d ≡ step ts start) where
+  unfoldable first : Starts (assert rules ts expr stmt start room) (expr Zero d room)
   unfolding assert
   first = starts-at (λ (k : ℕ). expr Zero k room) _ i
 
   module _ {target : Tree} {at left : ℕ} (e : expr Zero d room ≡ read target at left) where
-    stops : next-is ts at SSemiColon ≡ true → assert ts expr stmt start room ≡ refused AssertWithoutAction (step ts at)
+    stops : next-is ts at SSemiColon ≡ true → assert rules ts expr stmt start room ≡ refused AssertWithoutAction (step ts at)
     unfolding first
     stops semi = goes first e ∙ need-failed _ _ _ (ap not semi)
 
     module _ (more : next-is ts at SSemiColon ≡ false) where
-      unfoldable second : Starts (assert ts expr stmt start room) (behind-sign ts expr SComma AssertWithoutComma at left)
+      unfoldable second : Starts (assert rules ts expr stmt start room) (behind-sign ts expr SComma AssertWithoutComma at left)
       unfolding first
       second = record { rest = _; eq = goes first e ∙ need-met _ _ _ (ap not more) ∙ sym (sign-then ts _ _ _ expr _ _) }
 
       ended : {fail : Tree} {at′ left′ : ℕ} → behind-sign ts expr SComma AssertWithoutComma at left ≡ read fail at′ left′
-          → assert ts expr stmt start room ≡ build (tree.assert start target fail) at′ left′
+          → assert rules ts expr stmt start room ≡ build (tree.assert start target fail) at′ left′
       unfolding second
       ended f = goes second f
 
@@ -62,7 +64,7 @@ same-length : tie.Need-same-length
 same-length c = c .before .before .before .before .expression .kept .1 .0
 
 returns : tie.Need-returns
-returns c = pass-on (first (c .before .before .before .before .before .before .before .before .before .args .tokens .now) (expression (c .before .before .before .before .before .before .before .before .before .args .tokens .now) (c .before .before .before .before .before .before .before .before .before .args .less)) (spec.statement (c .before .before .before .before .before .before .before .before .before .args .tokens .now) (c .before .before .before .before .before .before .before .before .before .args .less)) _ _ (c .before .before .before .before .before .iterate .ensures)) (sooner (on-step _ _ (c .before .before .before .before .before .iterate .ensures)) (c .before .before .before .before .expression .ensures)) (c .enum-told .given .1)
+returns c = pass-on (first (by (c .before .before .before .before .before .before .before .before .before .args .mode)) (c .before .before .before .before .before .before .before .before .before .args .tokens .now) (expression (by (c .before .before .before .before .before .before .before .before .before .args .mode)) (c .before .before .before .before .before .before .before .before .before .args .tokens .now) (c .before .before .before .before .before .before .before .before .before .args .less)) (spec.statement (by (c .before .before .before .before .before .before .before .before .before .args .mode)) (c .before .before .before .before .before .before .before .before .before .args .tokens .now) (c .before .before .before .before .before .before .before .before .before .args .less)) _ _ (c .before .before .before .before .before .iterate .ensures)) (sooner (on-step _ _ (c .before .before .before .before .before .iterate .ensures)) (c .before .before .before .before .expression .ensures)) (c .enum-told .given .1)
 
 next-symbol-is-requires : tie.Need-next-symbol-is-requires
 next-symbol-is-requires c κs = search needs
@@ -74,7 +76,7 @@ same-length-2 : tie.Need-same-length-2
 same-length-2 c = c .before .before .before .before .before .before .before .before .expression .kept .1 .0
 
 returns-2 : tie.Need-returns-2
-returns-2 c = rw (c .iterate2 .ensures) (refuses _ _ _ (stops (c .before .before .before .before .before .before .before .before .before .before .before .before .before .args .tokens .now) (expression (c .before .before .before .before .before .before .before .before .before .before .before .before .before .args .tokens .now) (c .before .before .before .before .before .before .before .before .before .before .before .before .before .args .less)) (spec.statement (c .before .before .before .before .before .before .before .before .before .before .before .before .before .args .tokens .now) (c .before .before .before .before .before .before .before .before .before .before .before .before .before .args .less)) _ _ (c .before .before .before .before .before .before .before .before .before .iterate .ensures) (read-1 (c .before .before .before .before) .eq) (sym (c .before .before .next-symbol-is .ensures) ∙ c .before .if1 .taken)))
+returns-2 c = rw (c .iterate2 .ensures) (refuses _ _ _ (stops (by (c .before .before .before .before .before .before .before .before .before .before .before .before .before .args .mode)) (c .before .before .before .before .before .before .before .before .before .before .before .before .before .args .tokens .now) (expression (by (c .before .before .before .before .before .before .before .before .before .before .before .before .before .args .mode)) (c .before .before .before .before .before .before .before .before .before .before .before .before .before .args .tokens .now) (c .before .before .before .before .before .before .before .before .before .before .before .before .before .args .less)) (spec.statement (by (c .before .before .before .before .before .before .before .before .before .before .before .before .before .args .mode)) (c .before .before .before .before .before .before .before .before .before .before .before .before .before .args .tokens .now) (c .before .before .before .before .before .before .before .before .before .before .before .before .before .args .less)) _ _ (c .before .before .before .before .before .before .before .before .before .iterate .ensures) (read-1 (c .before .before .before .before) .eq) (sym (c .before .before .next-symbol-is .ensures) ∙ c .before .if1 .taken)))
 
 behind-sign-requires : tie.Need-behind-sign-requires
 behind-sign-requires c κs = (ready-same (c .before .before .before .before .before .before .before .before .before .before .before .before .before .pre) (c .before .before .before .before .before .before .before .before .expression .kept .1 .0) (read-1 (c .before .before .before .before) .stands .within), front-le (read-1 (c .before .before .before .before) .stands .front))
@@ -89,7 +91,7 @@ same-length-3 : tie.Need-same-length-3
 same-length-3 c = c .before .before .before .before .behind-sign .kept .1 .0 ∙ c .before .before .before .before .before .before .before .before .before .before .before .before .before .expression .kept .1 .0
 
 returns-3 : tie.Need-returns-3
-returns-3 c = pass-on (second (c .before .before .before .before .before .before .before .before .before .before .before .before .before .before .before .before .before .before .args .tokens .now) (expression (c .before .before .before .before .before .before .before .before .before .before .before .before .before .before .before .before .before .before .args .tokens .now) (c .before .before .before .before .before .before .before .before .before .before .before .before .before .before .before .before .before .before .args .less)) (spec.statement (c .before .before .before .before .before .before .before .before .before .before .before .before .before .before .before .before .before .before .args .tokens .now) (c .before .before .before .before .before .before .before .before .before .before .before .before .before .before .before .before .before .before .args .less)) _ _ (c .before .before .before .before .before .before .before .before .before .before .before .before .before .before .iterate .ensures) (read-1 (c .before .before .before .before .before .before .before .before .before) .eq) (sym (c .before .before .before .before .before .before .before .next-symbol-is .ensures) ∙ c .before .before .before .before .before .before .if1 .left)) (c .before .before .before .before .behind-sign .ensures .1 _ _ _ _ (read-1 (c .before .before .before .before .before .before .before .before .before) .stands)) (c .enum-told2 .given .1)
+returns-3 c = pass-on (second (by (c .before .before .before .before .before .before .before .before .before .before .before .before .before .before .before .before .before .before .args .mode)) (c .before .before .before .before .before .before .before .before .before .before .before .before .before .before .before .before .before .before .args .tokens .now) (expression (by (c .before .before .before .before .before .before .before .before .before .before .before .before .before .before .before .before .before .before .args .mode)) (c .before .before .before .before .before .before .before .before .before .before .before .before .before .before .before .before .before .before .args .tokens .now) (c .before .before .before .before .before .before .before .before .before .before .before .before .before .before .before .before .before .before .args .less)) (spec.statement (by (c .before .before .before .before .before .before .before .before .before .before .before .before .before .before .before .before .before .before .args .mode)) (c .before .before .before .before .before .before .before .before .before .before .before .before .before .before .before .before .before .before .args .tokens .now) (c .before .before .before .before .before .before .before .before .before .before .before .before .before .before .before .before .before .before .args .less)) _ _ (c .before .before .before .before .before .before .before .before .before .before .before .before .before .before .iterate .ensures) (read-1 (c .before .before .before .before .before .before .before .before .before) .eq) (sym (c .before .before .before .before .before .before .before .next-symbol-is .ensures) ∙ c .before .before .before .before .before .before .if1 .left)) (c .before .before .before .before .behind-sign .ensures .1 _ _ _ _ (read-1 (c .before .before .before .before .before .before .before .before .before) .stands)) (c .enum-told2 .given .1)
 
 put-row-requires : tie.Need-put-row-requires
 put-row-requires c κs = (fits-same _ _ _ (c .before .before .before .before .before .before .before .before .before .before .before .before .before .before .before .before .before .before .before .before .pre .fits) (c .before .before .before .before .before .before .behind-sign .kept .1 .0 ∙ c .before .before .before .before .before .before .before .before .before .before .before .before .before .before .before .expression .kept .1 .0), small (c .before .before .before .before .before .before .before .before .before .before .before .before .before .before .before .before .before .before .before .before .pre))
@@ -99,7 +101,7 @@ same-length-4 c = c .before .before .put-row .kept .0 ∙ c .before .before .bef
 
 returns-4 : tie.Need-returns-4
 returns-4 c =
-    by-eq (ended (c .before .before .before .before .before .before .before .before .before .before .before .before .before .before .before .before .before .before .before .before .before .before .before .args .tokens .now) (expression (c .before .before .before .before .before .before .before .before .before .before .before .before .before .before .before .before .before .before .before .before .before .before .before .args .tokens .now) (c .before .before .before .before .before .before .before .before .before .before .before .before .before .before .before .before .before .before .before .before .before .before .before .args .less)) (spec.statement (c .before .before .before .before .before .before .before .before .before .before .before .before .before .before .before .before .before .before .before .before .before .before .before .args .tokens .now) (c .before .before .before .before .before .before .before .before .before .before .before .before .before .before .before .before .before .before .before .before .before .before .before .args .less)) _ _ (c .before .before .before .before .before .before .before .before .before .before .before .before .before .before .before .before .before .before .before .iterate .ensures) (read-1 (c .before .before .before .before .before .before .before .before .before .before .before .before .before .before) .eq) (sym (c .before .before .before .before .before .before .before .before .before .before .before .before .next-symbol-is .ensures) ∙ c .before .before .before .before .before .before .before .before .before .before .before .if1 .left) (read-2 (c .before .before .before .before .before) .eq))
+    by-eq (ended (by (c .before .before .before .before .before .before .before .before .before .before .before .before .before .before .before .before .before .before .before .before .before .before .before .args .mode)) (c .before .before .before .before .before .before .before .before .before .before .before .before .before .before .before .before .before .before .before .before .before .before .before .args .tokens .now) (expression (by (c .before .before .before .before .before .before .before .before .before .before .before .before .before .before .before .before .before .before .before .before .before .before .before .args .mode)) (c .before .before .before .before .before .before .before .before .before .before .before .before .before .before .before .before .before .before .before .before .before .before .before .args .tokens .now) (c .before .before .before .before .before .before .before .before .before .before .before .before .before .before .before .before .before .before .before .before .before .before .before .args .less)) (spec.statement (by (c .before .before .before .before .before .before .before .before .before .before .before .before .before .before .before .before .before .before .before .before .before .before .before .args .mode)) (c .before .before .before .before .before .before .before .before .before .before .before .before .before .before .before .before .before .before .before .before .before .before .before .args .tokens .now) (c .before .before .before .before .before .before .before .before .before .before .before .before .before .before .before .before .before .before .before .before .before .before .before .args .less)) _ _ (c .before .before .before .before .before .before .before .before .before .before .before .before .before .before .before .before .before .before .before .iterate .ensures) (read-1 (c .before .before .before .before .before .before .before .before .before .before .before .before .before .before) .eq) (sym (c .before .before .before .before .before .before .before .before .before .before .before .before .next-symbol-is .ensures) ∙ c .before .before .before .before .before .before .before .before .before .before .before .if1 .left) (read-2 (c .before .before .before .before .before) .eq))
     (c .before .before .put-row .ensures (c .before .before .before .before .before .before .before .before .before .before .before .before .before .before .before .before .before .before .before .before .before .before .before .args .tokens .now) (read-2 (c .before .before .before .before .before) .stands .within) .1 _ [] _ _ _ _ (read-2 (c .before .before .before .before .before) .stands) (record { few = tt; root = of-node; refs = (read-1 (c .before .before .before .before .before .before .before .before .before .before .before .before .before .before) .head, read-2 (c .before .before .before .before .before) .head, refl, refl) }))
 
 pub assert-statement-spec : {M : Type 1} → statement M

@@ -102,4 +102,4 @@ module _ (t : ℕ) where
 
   pub returns-7 : lts.Need-returns-7 cs (at-keyword-at t) at-keyword-reads.Post
   unfolding class
-  returns-7 c = unstarted _ _ 13 (c .before .before .before .pre .1 .1) (keyword-arm (no-start 13) (but (9 ∷ 18 ∷ 19 ∷ 24 ∷ 26 ∷ 27 ∷ []) 28) {k = c .before .before .before .args .k} refl (c .match .keys7) refl)
+  returns-7 c = unstarted _ _ _ 13 (c .before .before .before .pre .1 .1) (keyword-arm (no-start 13) (but (9 ∷ 18 ∷ 19 ∷ 24 ∷ 26 ∷ 27 ∷ []) 28) {k = c .before .before .before .args .k} refl (c .match .keys7) refl)

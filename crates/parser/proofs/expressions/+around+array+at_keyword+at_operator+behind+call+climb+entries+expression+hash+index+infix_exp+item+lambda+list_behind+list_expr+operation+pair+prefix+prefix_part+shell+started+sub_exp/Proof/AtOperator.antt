@@ -130,4 +130,4 @@ module _ (t : ℕ) where
 
   pub returns-9 : lts.Need-returns-9 cs (at-operator-at t) at-operator-reads.Post
   unfolding class
-  returns-9 c = unstarted _ _ 12 (c .before .before .before .pre .1 .1) (operator-arm (no-start 12) (but (5 ∷ 14 ∷ 18 ∷ 24 ∷ 29 ∷ 30 ∷ 34 ∷ 40 ∷ []) 41) {s = c .before .before .before .args .s} refl (c .match .keys9) refl)
+  returns-9 c = unstarted _ _ _ 12 (c .before .before .before .pre .1 .1) (operator-arm (no-start 12) (but (5 ∷ 14 ∷ 18 ∷ 24 ∷ 29 ∷ 30 ∷ 34 ∷ 40 ∷ []) 41) {s = c .before .before .before .args .s} refl (c .match .keys9) refl)

@@ -3,6 +3,7 @@ use lib.Dec.{lit<}
 use Prim.Native.Nat.{ℕ}
 use native.Mathlib.Omega.{arith}
 use Rattle.grammar.specs.Expressions.{expression}
+use Rattle.words.specs.Modes.{by}
 use Rattle.parser.specs.Contracts.{item}
 use Rattle.parser.proofs.Answers.{taken, TakenOf, bounded-tree, bounded-told}
 use Rattle.parser.proofs.Parts.{ready-lent, in-part, back-read, back-refused, back-same, part-length}
@@ -55,16 +56,14 @@ module _ (t : ℕ) where
   same-length c = back-same (c .before .before .before .before .before .before .end .result) (c .before .before .before .before .before .before .before .before .before .args .pool .now) (c .before .before .before .before .item .last .1 .0) (c .before .before .before .before .item .kept .1 .0)
 
   pub returns : lts.Need-returns cs (behind-at t) behind-reads.Post
-  returns c = (bounded-told (c .enum-told .given .1), λ from slots zs left s. back-refused (in-part (item (c .before .before .before .before .before .before .before .before .before .args .tokens .now) (expression (c .before .before .before .before .before .before .before .before .before .args .tokens .now) (c .before .before .before .before .before .before .before .before .before .args .less)) (c .before .before .before .before .before .before .before .before .before .args .order) (c .before .before .before .before .before .before .before .before .before .args .paired) (c .before .before .before .before .before .before .before .before .before .args .c)) s (rw (c .before .before .before .before .before .before .end .ensures) at (c .before .before .before .before .item .ensures))) (c .enum-told .given .1))
+  returns c = (bounded-told (c .enum-told .given .1), λ from slots zs left s. back-refused (in-part (item (by (c .before .before .before .before .before .before .before .before .before .args .mode)) (c .before .before .before .before .before .before .before .before .before .args .tokens .now) (expression (by (c .before .before .before .before .before .before .before .before .before .args .mode)) (c .before .before .before .before .before .before .before .before .before .args .tokens .now) (c .before .before .before .before .before .before .before .before .before .args .less)) (c .before .before .before .before .before .before .before .before .before .args .order) (c .before .before .before .before .before .before .before .before .before .args .paired) (c .before .before .before .before .before .before .before .before .before .args .c)) s (rw (c .before .before .before .before .before .before .end .ensures) at (c .before .before .before .before .item .ensures))) (c .enum-told .given .1))
 
-  pub add-t15 : lts.Need-add-t15 cs (behind-at t) behind-reads.Post
-  add-t15 c = omega (arith, read-1 (c .before) .stands .front .fit, part-length (c .before .before .before .before .before .before .before .before .before .before .args .rows) (c .before .before .before .before .before .before .before .before .before .before .args .pool .now), c .before .before .before .before .before .before .before .before .before .before .pre .1 .1, c .before .before .before .before .before .before .before .before .before .before .pre .1 .0 .fits)
+  pub add-t16 : lts.Need-add-t16 cs (behind-at t) behind-reads.Post
+  add-t16 c = omega (arith, read-1 (c .before) .stands .front .fit, part-length (c .before .before .before .before .before .before .before .before .before .before .args .rows) (c .before .before .before .before .before .before .before .before .before .before .args .pool .now), c .before .before .before .before .before .before .before .before .before .before .pre .1 .1, c .before .before .before .before .before .before .before .before .before .before .pre .1 .0 .fits)
 
   pub same-length-2 : lts.Need-same-length-2 cs (behind-at t) behind-reads.Post
   same-length-2 c = back-same (c .before .before .before .before .before .before .before .end .result) (c .before .before .before .before .before .before .before .before .before .before .args .pool .now) (c .before .before .before .before .before .item .last .1 .0) (c .before .before .before .before .before .item .kept .1 .0)
 
   pub returns-2 : lts.Need-returns-2 cs (behind-at t) behind-reads.Post
-  returns-2 c = (
-    bounded-tree (omega (arith, read-1 (c .before) .stands .front .fit, part-length (c .before .before .before .before .before .before .before .before .before .before .args .rows) (c .before .before .before .before .before .before .before .before .before .before .args .pool .now), c .before .before .before .before .before .before .before .before .before .before .pre .1 .1)) (read-1 (c .before) .stands .on) (read-1 (c .before) .stands .within),
-    λ from slots zs left s. rw (c .before .before .before .before .before .before .before .end .ensures) (back-read s (in-part (item (c .before .before .before .before .before .before .before .before .before .before .args .tokens .now) (expression (c .before .before .before .before .before .before .before .before .before .before .args .tokens .now) (c .before .before .before .before .before .before .before .before .before .before .args .less)) (c .before .before .before .before .before .before .before .before .before .before .args .order) (c .before .before .before .before .before .before .before .before .before .before .args .paired) (c .before .before .before .before .before .before .before .before .before .before .args .c)) s (rw (c .before .before .before .before .before .before .before .end .ensures) at (c .before .before .before .before .before .item .ensures))) (c .before .r .given .1)),
-  )
+  returns-2 c = (bounded-tree (omega (arith, read-1 (c .before) .stands .front .fit, part-length (c .before .before .before .before .before .before .before .before .before .before .args .rows) (c .before .before .before .before .before .before .before .before .before .before .args .pool .now), c .before .before .before .before .before .before .before .before .before .before .pre .1 .1)) (read-1 (c .before) .stands .on) (read-1 (c .before) .stands .within),
+      λ from slots zs left s. rw (c .before .before .before .before .before .before .before .end .ensures) (back-read s (in-part (item (by (c .before .before .before .before .before .before .before .before .before .before .args .mode)) (c .before .before .before .before .before .before .before .before .before .before .args .tokens .now) (expression (by (c .before .before .before .before .before .before .before .before .before .before .args .mode)) (c .before .before .before .before .before .before .before .before .before .before .args .tokens .now) (c .before .before .before .before .before .before .before .before .before .before .args .less)) (c .before .before .before .before .before .before .before .before .before .before .args .order) (c .before .before .before .before .before .before .before .before .before .before .args .paired) (c .before .before .before .before .before .before .before .before .before .before .args .c)) s (rw (c .before .before .before .before .before .before .before .end .ensures) at (c .before .before .before .before .before .item .ensures))) (c .before .r .given .1)))

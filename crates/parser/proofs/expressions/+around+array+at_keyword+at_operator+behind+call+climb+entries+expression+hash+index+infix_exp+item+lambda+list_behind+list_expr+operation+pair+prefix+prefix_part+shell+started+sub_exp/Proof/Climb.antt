@@ -10,6 +10,8 @@ use Rattle.grammar.specs.Tree.{Tree, nil, _▸_, size, width}
 use Rattle.grammar.specs.Expressions.{expression, climb}
 use Rattle.tokens.specs.Tokens.{word}
 use Rattle.tokens.proofs.Round.{word-token}
+use Rattle.grammar.specs.Rules.{Rules}
+use Rattle.words.specs.Modes.{by}
 use Rattle.parser.specs.Meets.{Stands, one}
 use Rattle.parser.proofs.Answers.{bounds, bounded-tree, bounded-told, told, taken, pass, by-eq, choose-true, choose-false, then-read}
 use Rattle.parser.proofs.Loops.{Turning, starts, stops, turns-on}
@@ -25,19 +27,19 @@ use Rattle.parser.proofs.expressions.+around+array+at_keyword+at_operat
 use Rattle.parser.proofs.expressions.+around+array+at_keyword+at_operator+behind+call+climb+entries+expression+hash+index+infix_exp+item+lambda+list_behind+list_expr+operation+pair+prefix+prefix_part+shell+started+sub_exp.Proof.Measures.{climb-at, operation-below}
 
 -- What holds at each turn: the numbers fit, and from any tree in the first rows the definition's loop has come as far.
-pub record Inv (ts pool₀ : List ℕ) (first order less k₀ h₀ : ℕ) (d₀ : ℕ) (pool : List ℕ) (k h : ℕ) (d : ℕ) : Type 0 where
+pub record Inv (rules : Rules) (ts pool₀ : List ℕ) (first order less k₀ h₀ : ℕ) (d₀ : ℕ) (pool : List ℕ) (k h : ℕ) (d : ℕ) : Type 0 where
   pub same : length pool ≡ length pool₀
   pub fit : width * k ≤ length pool
   pub on : d₀ ≤ d
   pub within : d < length ts
   pub state : (from : ℕ) (t : Tree) (zs : List ℕ) (left : ℕ) → Stands ts from ((t ▸ nil) ∷ []) first k₀ left zs pool₀ d₀ → h₀ ≡ first + size t
-      → Turning one (climb ts (expression ts less) order) ts from t d₀ left first k h zs pool d
+      → Turning one (climb rules ts (expression rules ts less) order) ts from t d₀ left first k h zs pool d
 
 abbrev pub Inv-loop : lts.InvT-loop
-Inv-loop tokens pool₀ first rows head c order less k₀ h₀ d₀ pool k h d = Inv tokens pool₀ first order less k₀ h₀ d₀ pool k h d
+Inv-loop tokens pool₀ first rows head c order mode less k₀ h₀ d₀ pool k h d = Inv (by mode) tokens pool₀ first order less k₀ h₀ d₀ pool k h d
 
 abbrev pub μ-loop : lts.MeasureT-loop
-μ-loop tokens pool₀ first rows head c order less k₀ h₀ d₀ pool k h d = length tokens - d
+μ-loop tokens pool₀ first rows head c order mode less k₀ h₀ d₀ pool k h d = length tokens - d
 
 module _ (t : ℕ) where
   abbrev cs : lts.Claims
@@ -74,11 +76,9 @@ module _ (t : ℕ) where
 
   pub returns : lts.Need-returns cs (climb-at t) climb-reads.Post Inv-loop μ-loop
   unfolding climb
-  returns c = (
-    bounded-told (c .passed .ensures ∙ c .before .enum-told .given .1),
-    λ from t zs left s e. let w = c .before .before .before .before .before .before .before .before .before .before .before .loop .inv .state from t zs left s e in
-        by-eq (w .eq ∙ choose-true _ _ (ap (goes-on _) (sym (ap word (c .before .before .before .before .before .before .before .before .before .before .next .ensures) ∙ word-token _ (c .before .before .before .before .before .before .before .before .before .before .before .before .before .before .pre .1 .0 .sound .good (step (c .before .before .before .before .before .before .before .before .before .before .before .before .before .before .args .tokens .now) (c .before .before .before .before .before .before .before .before .before .before .before .loop .d))))) ∙ sym (c .before .before .before .before .before .before .before .before .before .goes-on .ensures) ∙ c .before .before .before .before .before .before .before .before .if1 .taken)) (rw (← (c .before .before .before .before .before .before .iterate .ensures)) (told (sym (c .passed .ensures)) (pass _ (c .before .before .before .before .before .operation .ensures .1 _ _ _ _ (stands-step _ _ (c .before .before .before .before .before .before .iterate .ensures) (w .stands)) (w .head)) (c .before .enum-told .given .1)))),
-  )
+  returns c =
+      (bounded-told (c .passed .ensures ∙ c .before .enum-told .given .1), λ from t zs left s e. let w = c .before .before .before .before .before .before .before .before .before .before .before .loop .inv .state from t zs left s e in
+      by-eq (w .eq ∙ choose-true _ _ (ap (goes-on _) (sym (ap word (c .before .before .before .before .before .before .before .before .before .before .next .ensures) ∙ word-token _ (c .before .before .before .before .before .before .before .before .before .before .before .before .before .before .pre .1 .0 .sound .good (step (c .before .before .before .before .before .before .before .before .before .before .before .before .before .before .args .tokens .now) (c .before .before .before .before .before .before .before .before .before .before .before .loop .d))))) ∙ sym (c .before .before .before .before .before .before .before .before .before .goes-on .ensures) ∙ c .before .before .before .before .before .before .before .before .if1 .taken)) (rw (← (c .before .before .before .before .before .before .iterate .ensures)) (told (sym (c .passed .ensures)) (pass _ (c .before .before .before .before .before .operation .ensures .1 _ _ _ _ (stands-step _ _ (c .before .before .before .before .before .before .iterate .ensures) (w .stands)) (w .head)) (c .before .enum-told .given .1)))))
 
   pub loop-less : lts.Need-loop-less cs (climb-at t) climb-reads.Post Inv-loop μ-loop
   loop-less c = let b = bounds (c .before .before .before .before .before .operation .ensures .0) (c .before .r .given .1) in omega (arith, b .on, b .within, goes-onward _ (c .before .before .before .before .before .before .before .before .before .before .before .before .before .before .pre .1 .0 .sound) (c .before .before .before .before .before .before .before .before .before .before .before .loop .inv .within) (ap (goes-on _) (sym (ap word (c .before .before .before .before .before .before .before .before .before .before .next .ensures) ∙ word-token _ (c .before .before .before .before .before .before .before .before .before .before .before .before .before .before .pre .1 .0 .sound .good (step (c .before .before .before .before .before .before .before .before .before .before .before .before .before .before .args .tokens .now) (c .before .before .before .before .before .before .before .before .before .before .before .loop .d))))) ∙ sym (c .before .before .before .before .before .before .before .before .before .goes-on .ensures) ∙ c .before .before .before .before .before .before .before .before .if1 .taken), c .before .before .before .before .before .before .iterate .ensures)
@@ -93,7 +93,7 @@ module _ (t : ℕ) where
         on = le-trans (c .before .before .before .before .before .before .before .before .before .before .before .loop .inv .on) (le-trans (on-step _ _ (c .before .before .before .before .before .before .iterate .ensures)) (b .on));
         within = b .within;
         state = λ from t zs left s e. let w = c .before .before .before .before .before .before .before .before .before .before .before .loop .inv .state from t zs left s e in let q = taken (c .before .before .before .before .before .operation .ensures .1 _ _ _ _ (stands-step _ _ (c .before .before .before .before .before .before .iterate .ensures) (w .stands)) (w .head)) (c .before .r .given .1) in
-            turns-on w _ _ (choose-true _ _ (ap (goes-on _) (sym (ap word (c .before .before .before .before .before .before .before .before .before .before .next .ensures) ∙ word-token _ (c .before .before .before .before .before .before .before .before .before .before .before .before .before .before .pre .1 .0 .sound .good (step (c .before .before .before .before .before .before .before .before .before .before .before .before .before .before .args .tokens .now) (c .before .before .before .before .before .before .before .before .before .before .before .loop .d))))) ∙ sym (c .before .before .before .before .before .before .before .before .before .goes-on .ensures) ∙ c .before .before .before .before .before .before .before .before .if1 .taken) ∙ rw (← (c .before .before .before .before .before .before .iterate .ensures)) (then-read _ (q .eq))) (omega (arith, b .on, goes-onward _ (c .before .before .before .before .before .before .before .before .before .before .before .before .before .before .pre .1 .0 .sound) (c .before .before .before .before .before .before .before .before .before .before .before .loop .inv .within) (ap (goes-on _) (sym (ap word (c .before .before .before .before .before .before .before .before .before .before .next .ensures) ∙ word-token _ (c .before .before .before .before .before .before .before .before .before .before .before .before .before .before .pre .1 .0 .sound .good (step (c .before .before .before .before .before .before .before .before .before .before .before .before .before .before .args .tokens .now) (c .before .before .before .before .before .before .before .before .before .before .before .loop .d))))) ∙ sym (c .before .before .before .before .before .before .before .before .before .goes-on .ensures) ∙ c .before .before .before .before .before .before .before .before .if1 .taken), c .before .before .before .before .before .before .iterate .ensures)) (q .head) (q .stands);
+        turns-on w _ _ (choose-true _ _ (ap (goes-on _) (sym (ap word (c .before .before .before .before .before .before .before .before .before .before .next .ensures) ∙ word-token _ (c .before .before .before .before .before .before .before .before .before .before .before .before .before .before .pre .1 .0 .sound .good (step (c .before .before .before .before .before .before .before .before .before .before .before .before .before .before .args .tokens .now) (c .before .before .before .before .before .before .before .before .before .before .before .loop .d))))) ∙ sym (c .before .before .before .before .before .before .before .before .before .goes-on .ensures) ∙ c .before .before .before .before .before .before .before .before .if1 .taken) ∙ rw (← (c .before .before .before .before .before .before .iterate .ensures)) (then-read _ (q .eq))) (omega (arith, b .on, goes-onward _ (c .before .before .before .before .before .before .before .before .before .before .before .before .before .before .pre .1 .0 .sound) (c .before .before .before .before .before .before .before .before .before .before .before .loop .inv .within) (ap (goes-on _) (sym (ap word (c .before .before .before .before .before .before .before .before .before .before .next .ensures) ∙ word-token _ (c .before .before .before .before .before .before .before .before .before .before .before .before .before .before .pre .1 .0 .sound .good (step (c .before .before .before .before .before .before .before .before .before .before .before .before .before .before .args .tokens .now) (c .before .before .before .before .before .before .before .before .before .before .before .loop .d))))) ∙ sym (c .before .before .before .before .before .before .before .before .before .goes-on .ensures) ∙ c .before .before .before .before .before .before .before .before .if1 .taken), c .before .before .before .before .before .before .iterate .ensures)) (q .head) (q .stands)
       }
 
   pub same-length-2 : lts.Need-same-length-2 cs (climb-at t) climb-reads.Post Inv-loop μ-loop
@@ -101,8 +101,6 @@ module _ (t : ℕ) where
 
   pub returns-2 : lts.Need-returns-2 cs (climb-at t) climb-reads.Post Inv-loop μ-loop
   unfolding climb
-  returns-2 c = (
-    bounded-tree (omega (arith, c .before .before .before .loop .inv .fit, c .before .before .before .loop .inv .same)) (c .before .before .before .loop .inv .on) (c .before .before .before .loop .inv .within),
-    λ from t zs left s e. let w = c .before .before .before .loop .inv .state from t zs left s e in
-        stops w _ refl (choose-false _ _ (ap (goes-on _) (sym (ap word (c .before .before .next .ensures) ∙ word-token _ (c .before .before .before .before .before .before .pre .1 .0 .sound .good (step (c .before .before .before .before .before .before .args .tokens .now) (c .before .before .before .loop .d))))) ∙ sym (c .before .goes-on .ensures) ∙ c .if1 .left)),
-  )
+  returns-2 c =
+      (bounded-tree (omega (arith, c .before .before .before .loop .inv .fit, c .before .before .before .loop .inv .same)) (c .before .before .before .loop .inv .on) (c .before .before .before .loop .inv .within), λ from t zs left s e. let w = c .before .before .before .loop .inv .state from t zs left s e in
+      stops w _ refl (choose-false _ _ (ap (goes-on _) (sym (ap word (c .before .before .next .ensures) ∙ word-token _ (c .before .before .before .before .before .before .pre .1 .0 .sound .good (step (c .before .before .before .before .before .before .args .tokens .now) (c .before .before .before .loop .d))))) ∙ sym (c .before .goes-on .ensures) ∙ c .if1 .left)))

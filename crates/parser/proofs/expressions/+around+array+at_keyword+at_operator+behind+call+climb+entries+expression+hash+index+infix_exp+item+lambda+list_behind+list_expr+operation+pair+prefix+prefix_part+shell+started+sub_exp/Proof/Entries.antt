@@ -9,6 +9,8 @@ use lib.ListN.{length}
 use Rattle.grammar.specs.Words.{SComma}
 use Rattle.grammar.specs.Tree.{Trees, head-ref, width}
 use Rattle.grammar.specs.Expressions.{expression, entries}
+use Rattle.grammar.specs.Rules.{Rules}
+use Rattle.words.specs.Modes.{by}
 use Rattle.parser.specs.Contracts.{item}
 use Rattle.parser.specs.Meets.{Stands, many}
 use Rattle.parser.proofs.Answers.{bounds, bounded-tree, bounded-told, taken, pass, by-eq, choose-true, choose-false, then-read}
@@ -25,19 +27,19 @@ use Rattle.parser.proofs.expressions.+around+array+at_keyword+at_operat
 use Rattle.parser.proofs.expressions.+around+array+at_keyword+at_operator+behind+call+climb+entries+expression+hash+index+infix_exp+item+lambda+list_behind+list_expr+operation+pair+prefix+prefix_part+shell+started+sub_exp.Proof.Measures.{entries-at, behind-below}
 
 -- What holds at each turn: the numbers fit, and from any list in the first rows the definition's loop has come as far.
-pub record Inv (ts pool₀ : List ℕ) (first : ℕ) (paired : Bool) (less k₀ h₀ : ℕ) (d₀ : ℕ) (pool : List ℕ) (k h : ℕ) (d : ℕ) : Type 0 where
+pub record Inv (rules : Rules) (ts pool₀ : List ℕ) (first : ℕ) (paired : Bool) (less k₀ h₀ : ℕ) (d₀ : ℕ) (pool : List ℕ) (k h : ℕ) (d : ℕ) : Type 0 where
   pub same : length pool ≡ length pool₀
   pub fit : width * k ≤ length pool
   pub on : d₀ ≤ d
   pub within : d < length ts
   pub state : (from : ℕ) (us : Trees) (zs : List ℕ) (left : ℕ) → Stands ts from (us ∷ []) first k₀ left zs pool₀ d₀ → h₀ ≡ head-ref us first
-      → Turning many (entries ts (expression ts less) (item ts (expression ts less) 0 paired)) ts from us d₀ left first k h zs pool d
+      → Turning many (entries rules ts (expression rules ts less) (item rules ts (expression rules ts less) 0 paired)) ts from us d₀ left first k h zs pool d
 
 abbrev pub Inv-loop : lts.InvT-loop
-Inv-loop tokens pool₀ first rows head c paired less k₀ h₀ d₀ pool k h d = Inv tokens pool₀ first paired less k₀ h₀ d₀ pool k h d
+Inv-loop tokens pool₀ first rows head c paired mode less k₀ h₀ d₀ pool k h d = Inv (by mode) tokens pool₀ first paired less k₀ h₀ d₀ pool k h d
 
 abbrev pub μ-loop : lts.MeasureT-loop
-μ-loop tokens pool₀ first rows head c paired less k₀ h₀ d₀ pool k h d = length tokens - d
+μ-loop tokens pool₀ first rows head c paired mode less k₀ h₀ d₀ pool k h d = length tokens - d
 
 module _ (t : ℕ) where
   abbrev cs : lts.Claims
@@ -57,10 +59,9 @@ module _ (t : ℕ) where
   iterate-requires-2 c κs = search needs
 
   pub behind-requires : lts.Need-behind-requires cs (entries-at t) entries-reads.Post Inv-loop μ-loop
-  behind-requires c κs = (
-    falls _ _ _ _ _ _ _ (c .before .before .before .before .before .before .before .before .pre .0) (le-trans (c .before .before .before .before .before .loop .inv .on) (le-trans (on-step _ _ (c .before .before .iterate .ensures)) (on-step _ _ (c .before .iterate2 .ensures)))) (lit< tt),
-    (ready-step _ _ (c .before .iterate2 .ensures) (ready-step _ _ (c .before .before .iterate .ensures) (ready-same (c .before .before .before .before .before .before .before .before .pre .1 .0) (c .before .before .before .before .before .loop .inv .same) (c .before .before .before .before .before .loop .inv .within))), c .before .before .before .before .before .loop .inv .fit),
-  )
+  behind-requires c κs =
+      (falls _ _ _ _ _ _ _ (c .before .before .before .before .before .before .before .before .pre .0) (le-trans (c .before .before .before .before .before .loop .inv .on) (le-trans (on-step _ _ (c .before .before .iterate .ensures)) (on-step _ _ (c .before .iterate2 .ensures)))) (lit< tt),
+      (ready-step _ _ (c .before .iterate2 .ensures) (ready-step _ _ (c .before .before .iterate .ensures) (ready-same (c .before .before .before .before .before .before .before .before .pre .1 .0) (c .before .before .before .before .before .loop .inv .same) (c .before .before .before .before .before .loop .inv .within))), c .before .before .before .before .before .loop .inv .fit))
 
   pub enum-known-r : lts.Need-enum-known-r cs (entries-at t) entries-reads.Post Inv-loop μ-loop
   enum-known-r c = c .match .keys1
@@ -73,11 +74,9 @@ module _ (t : ℕ) where
 
   pub returns : lts.Need-returns cs (entries-at t) entries-reads.Post Inv-loop μ-loop
   unfolding entries
-  returns c = (
-    bounded-told (c .enum-told .given .1),
-    λ from us zs left s e. let w = c .before .before .before .before .before .before .before .before .before .before .loop .inv .state from us zs left s e in
-        by-eq (w .eq ∙ choose-true _ _ (sym (c .before .before .before .before .before .before .before .before .before .next-symbol-is .ensures) ∙ c .before .before .before .before .before .before .before .before .if1 .taken)) (rw (← (c .before .before .before .before .before .before .before .iterate .ensures), ← (c .before .before .before .before .before .before .iterate2 .ensures)) (pass _ (c .before .before .before .before .behind .ensures .1 _ _ _ _ (stands-step _ _ (c .before .before .before .before .before .before .iterate2 .ensures) (stands-step _ _ (c .before .before .before .before .before .before .before .iterate .ensures) (w .stands)))) (c .enum-told .given .1))),
-  )
+  returns c =
+      (bounded-told (c .enum-told .given .1), λ from us zs left s e. let w = c .before .before .before .before .before .before .before .before .before .before .loop .inv .state from us zs left s e in
+      by-eq (w .eq ∙ choose-true _ _ (sym (c .before .before .before .before .before .before .before .before .before .next-symbol-is .ensures) ∙ c .before .before .before .before .before .before .before .before .if1 .taken)) (rw (← (c .before .before .before .before .before .before .before .iterate .ensures), ← (c .before .before .before .before .before .before .iterate2 .ensures)) (pass _ (c .before .before .before .before .behind .ensures .1 _ _ _ _ (stands-step _ _ (c .before .before .before .before .before .before .iterate2 .ensures) (stands-step _ _ (c .before .before .before .before .before .before .before .iterate .ensures) (w .stands)))) (c .enum-told .given .1))))
 
   pub link-requires : lts.Need-link-requires cs (entries-at t) entries-reads.Post Inv-loop μ-loop
   link-requires c κs = search needs
@@ -98,8 +97,8 @@ module _ (t : ℕ) where
         on = le-trans (c .before .before .before .before .before .before .before .before .before .before .before .before .before .before .before .before .loop .inv .on) (le-trans (on-step _ _ (c .before .before .before .before .before .before .before .before .before .before .before .before .before .iterate .ensures)) (le-trans (on-step _ _ (c .before .before .before .before .before .before .before .before .before .before .before .before .iterate2 .ensures)) (b .on)));
         within = b .within;
         state = λ from us zs left s e. let w = c .before .before .before .before .before .before .before .before .before .before .before .before .before .before .before .before .loop .inv .state from us zs left s e in let q = taken (c .before .before .before .before .before .before .before .before .before .before .behind .ensures .1 _ _ _ _ (stands-step _ _ (c .before .before .before .before .before .before .before .before .before .before .before .before .iterate2 .ensures) (stands-step _ _ (c .before .before .before .before .before .before .before .before .before .before .before .before .before .iterate .ensures) (w .stands)))) (c .before .before .before .before .before .before .r .given .1) in
-            rw (c .first-of .ensures, c .before .before .before .link .ensures)
-            (lengthens w _ (q .stands) (q .head) (choose-true _ _ (sym (c .before .before .before .before .before .before .before .before .before .before .before .before .before .before .before .next-symbol-is .ensures) ∙ c .before .before .before .before .before .before .before .before .before .before .before .before .before .before .if1 .taken) ∙ rw (← (c .before .before .before .before .before .before .before .before .before .before .before .before .before .iterate .ensures), ← (c .before .before .before .before .before .before .before .before .before .before .before .before .iterate2 .ensures)) (then-read _ (q .eq))) (omega (arith, b .on, moves-next SComma (c .before .before .before .before .before .before .before .before .before .before .before .before .before .before .before .before .before .before .before .pre .1 .0 .sound) (c .before .before .before .before .before .before .before .before .before .before .before .before .before .before .before .before .loop .inv .within) (sym (c .before .before .before .before .before .before .before .before .before .before .before .before .before .before .before .next-symbol-is .ensures) ∙ c .before .before .before .before .before .before .before .before .before .before .before .before .before .before .if1 .taken) refl, c .before .before .before .before .before .before .before .before .before .before .before .before .before .iterate .ensures, on-step _ _ (c .before .before .before .before .before .before .before .before .before .before .before .before .iterate2 .ensures))) (omega arith) (b .within));
+        rw (c .first-of .ensures, c .before .before .before .link .ensures)
+        (lengthens w _ (q .stands) (q .head) (choose-true _ _ (sym (c .before .before .before .before .before .before .before .before .before .before .before .before .before .before .before .next-symbol-is .ensures) ∙ c .before .before .before .before .before .before .before .before .before .before .before .before .before .before .if1 .taken) ∙ rw (← (c .before .before .before .before .before .before .before .before .before .before .before .before .before .iterate .ensures), ← (c .before .before .before .before .before .before .before .before .before .before .before .before .iterate2 .ensures)) (then-read _ (q .eq))) (omega (arith, b .on, moves-next SComma (c .before .before .before .before .before .before .before .before .before .before .before .before .before .before .before .before .before .before .before .pre .1 .0 .sound) (c .before .before .before .before .before .before .before .before .before .before .before .before .before .before .before .before .loop .inv .within) (sym (c .before .before .before .before .before .before .before .before .before .before .before .before .before .before .before .next-symbol-is .ensures) ∙ c .before .before .before .before .before .before .before .before .before .before .before .before .before .before .if1 .taken) refl, c .before .before .before .before .before .before .before .before .before .before .before .before .before .iterate .ensures, on-step _ _ (c .before .before .before .before .before .before .before .before .before .before .before .before .iterate2 .ensures))) (omega arith) (b .within))
       }
 
   pub same-length-2 : lts.Need-same-length-2 cs (entries-at t) entries-reads.Post Inv-loop μ-loop
@@ -107,8 +106,6 @@ module _ (t : ℕ) where
 
   pub returns-2 : lts.Need-returns-2 cs (entries-at t) entries-reads.Post Inv-loop μ-loop
   unfolding entries
-  returns-2 c = (
-    bounded-tree (omega (arith, c .before .before .loop .inv .fit, c .before .before .loop .inv .same)) (c .before .before .loop .inv .on) (c .before .before .loop .inv .within),
-    λ from us zs left s e. let w = c .before .before .loop .inv .state from us zs left s e in
-        stops w _ refl (choose-false _ _ (sym (c .before .next-symbol-is .ensures) ∙ c .if1 .left)),
-  )
+  returns-2 c =
+      (bounded-tree (omega (arith, c .before .before .loop .inv .fit, c .before .before .loop .inv .same)) (c .before .before .loop .inv .on) (c .before .before .loop .inv .within), λ from us zs left s e. let w = c .before .before .loop .inv .state from us zs left s e in
+      stops w _ refl (choose-false _ _ (sym (c .before .next-symbol-is .ensures) ∙ c .if1 .left)))

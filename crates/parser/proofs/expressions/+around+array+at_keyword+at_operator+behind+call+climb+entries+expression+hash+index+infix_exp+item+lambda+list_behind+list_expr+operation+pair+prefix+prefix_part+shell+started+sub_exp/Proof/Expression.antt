@@ -6,6 +6,7 @@ use native.Mathlib.Omega.{arith}
 use native.Mathlib.Numerals.{sub-one}
 use Rattle.grammar.specs.Parsed.{refused}
 use Rattle.grammar.specs.Expressions.{expression, level}
+use Rattle.grammar.specs.Rules.{Rules}
 use Rattle.parser.proofs.Answers.{taken, TakenOf, pass, by-eq, refuses, then-read, choose-true, choose-false, read-on, told}
 use Rattle.parser.proofs.Moves.{front-le, ready-same, stands-step}
 use borrow.Author.Needs.{needs}
@@ -19,15 +20,15 @@ use Rattle.parser.proofs.expressions.+around+array+at_keyword+at_operat
 use Rattle.parser.proofs.expressions.+around+array+at_keyword+at_operator+behind+call+climb+entries+expression+hash+index+infix_exp+item+lambda+list_behind+list_expr+operation+pair+prefix+prefix_part+shell+started+sub_exp.Proof.Measures.{expression-at, climb-below, prefix-part-below}
 
 -- Nothing more may be open.
-too-deep : (ts : List ℕ) (allow order at room : ℕ) → allow ≡ 0 → expression ts allow order at room ≡ refused 2 at
+too-deep : (rules : Rules) (ts : List ℕ) (allow order at room : ℕ) → allow ≡ 0 → expression rules ts allow order at room ≡ refused 2 at
 unfolding expression
-too-deep ts allow order at room e = rw e
+too-deep rules ts allow order at room e = rw e
 
 -- One more is open.
-one-less : (ts : List ℕ) (allow order at room : ℕ) → ((allow ≡ 0) → ⊥) → expression ts allow order at room ≡ level ts (expression ts (allow - 1)) order at room
+one-less : (rules : Rules) (ts : List ℕ) (allow order at room : ℕ) → ((allow ≡ 0) → ⊥) → expression rules ts allow order at room ≡ level rules ts (expression rules ts (allow - 1)) order at room
 unfolding expression
-one-less ts zero order at room n = absurd (n refl)
-one-less ts (suc d) order at room n = rw sub-one
+one-less rules ts zero order at room n = absurd (n refl)
+one-less rules ts (suc d) order at room n = rw sub-one
 
 module _ (t : ℕ) where
   abbrev cs : lts.Claims
@@ -37,7 +38,7 @@ module _ (t : ℕ) where
   read-1 c = taken (c .before .before .before .before .prefix-part .ensures) (c .r .given .1)
 
   pub returns : lts.Need-returns cs (expression-at t) expression-reads.Post
-  returns c = refuses _ _ _ (too-deep _ _ _ _ _ (c .if1 .taken))
+  returns c = refuses _ _ _ (too-deep _ _ _ _ _ _ (c .if1 .taken))
 
   pub sub-less : lts.Need-sub-less cs (expression-at t) expression-reads.Post
   sub-less c = search needs
@@ -59,7 +60,7 @@ module _ (t : ℕ) where
 
   pub returns-2 : lts.Need-returns-2 cs (expression-at t) expression-reads.Post
   unfolding level
-  returns-2 c = by-eq (one-less _ _ _ _ _ (c .before .before .before .before .before .before .before .if1 .left)) (told (sym (c .passed .ensures)) (pass _ (c .before .before .before .before .before .prefix-part .ensures) (c .before .enum-told .given .1)))
+  returns-2 c = by-eq (one-less _ _ _ _ _ _ (c .before .before .before .before .before .before .before .if1 .left)) (told (sym (c .passed .ensures)) (pass _ (c .before .before .before .before .before .prefix-part .ensures) (c .before .enum-told .given .1)))
 
   pub next-symbol-is-requires : lts.Need-next-symbol-is-requires cs (expression-at t) expression-reads.Post
   next-symbol-is-requires c κs = search needs
@@ -72,7 +73,7 @@ module _ (t : ℕ) where
 
   pub returns-3 : lts.Need-returns-3 cs (expression-at t) expression-reads.Post
   unfolding level
-  returns-3 c = by-eq (one-less _ _ _ _ _ (c .before .before .before .before .before .before .before .before .before .before .if1 .left) ∙ then-read _ (read-1 (c .before .before .before .before) .eq) ∙ choose-true _ _ (sym (c .before .before .next-symbol-is .ensures) ∙ c .before .if2 .taken)) (rw (← (c .iterate .ensures)) (read-on (read-1 (c .before .before .before .before) .head) (stands-step _ _ (c .iterate .ensures) (read-1 (c .before .before .before .before) .stands))))
+  returns-3 c = by-eq (one-less _ _ _ _ _ _ (c .before .before .before .before .before .before .before .before .before .before .if1 .left) ∙ then-read _ (read-1 (c .before .before .before .before) .eq) ∙ choose-true _ _ (sym (c .before .before .next-symbol-is .ensures) ∙ c .before .if2 .taken)) (rw (← (c .iterate .ensures)) (read-on (read-1 (c .before .before .before .before) .head) (stands-step _ _ (c .iterate .ensures) (read-1 (c .before .before .before .before) .stands))))
 
   pub climb-requires : lts.Need-climb-requires cs (expression-at t) expression-reads.Post
   climb-requires c κs =
@@ -84,4 +85,4 @@ module _ (t : ℕ) where
   pub returns-4 : lts.Need-returns-4 cs (expression-at t) expression-reads.Post
   unfolding level
   returns-4 c =
-      by-eq (one-less _ _ _ _ _ (c .before .before .before .before .before .before .before .before .before .before .before .before .before .if1 .left) ∙ then-read _ (read-1 (c .before .before .before .before .before .before .before) .eq) ∙ choose-false _ _ (sym (c .before .before .before .before .before .next-symbol-is .ensures) ∙ c .before .before .before .before .if2 .left)) (c .before .before .climb .ensures .1 _ _ _ _ (read-1 (c .before .before .before .before .before .before .before) .stands) (read-1 (c .before .before .before .before .before .before .before) .head))
+      by-eq (one-less _ _ _ _ _ _ (c .before .before .before .before .before .before .before .before .before .before .before .before .before .if1 .left) ∙ then-read _ (read-1 (c .before .before .before .before .before .before .before) .eq) ∙ choose-false _ _ (sym (c .before .before .before .before .before .next-symbol-is .ensures) ∙ c .before .before .before .before .if2 .left)) (c .before .before .climb .ensures .1 _ _ _ _ (read-1 (c .before .before .before .before .before .before .before) .stands) (read-1 (c .before .before .before .before .before .before .before) .head))

@@ -9,6 +9,9 @@ use Rattle.grammar.specs.Tree.{Tree, Trees, nil, _▸_}
 use Rattle.grammar.specs.Tree as tree
 use Rattle.grammar.specs.Parsed.{read, turns, HashNotTerminated}
 use Rattle.grammar.specs.Expressions.{Rec, expression, entries, pair, hash-literal}
+use Rattle.grammar.specs.Rules.{Rules}
+use Rattle.words.specs.declared.modes.Due.the-variants.{Always}
+use Rattle.words.specs.Modes.{by}
 use Rattle.parser.specs.Contracts.{item, closed}
 use Rattle.parser.specs.Meets.{of-node}
 use Rattle.parser.proofs.Answers.{taken, TakenOf, by-eq, choose-true, choose-false, at-once, sooner, Starts, starts-at, starts-after, goes, pass-on}
@@ -25,18 +28,18 @@ use Rattle.parser.proofs.expressions.+around+array+at_keyword+at_operat
 use Rattle.parser.proofs.expressions.+around+array+at_keyword+at_operator+behind+call+climb+entries+expression+hash+index+infix_exp+item+lambda+list_behind+list_expr+operation+pair+prefix+prefix_part+shell+started+sub_exp.Proof.Measures.{hash-at, entries-below, pair-below}
 
 -- The definition, one reading after another.
-module _ (ts : List ℕ) (rec : Rec) (start room : ℕ) {d : ℕ} (some : next-is ts start SRBrace ≡ false) (i : d ≡ step ts start) where
-  unfoldable first : Starts (hash-literal ts rec start room) (pair ts rec d room)
+module _ (rules : Rules) (ts : List ℕ) (rec : Rec) (start room : ℕ) {d : ℕ} (some : next-is ts start SRBrace ≡ false) (i : d ≡ step ts start) where
+  unfoldable first : Starts (hash-literal rules ts rec start room) (pair rules ts rec d room)
   unfolding hash-literal
-  first = starts-after (choose-false _ _ some) (starts-at (λ (k : ℕ). pair ts rec k room) _ i)
+  first = starts-after (choose-false _ _ some) (starts-at (λ (k : ℕ). pair rules ts rec k room) _ i)
 
-  module _ {t : Tree} {at left : ℕ} (e : pair ts rec d room ≡ read t at left) where
-    unfoldable second : Starts (hash-literal ts rec start room) (entries ts rec (pair ts rec) turns (t ▸ nil) at left)
+  module _ {t : Tree} {at left : ℕ} (e : pair rules ts rec d room ≡ read t at left) where
+    unfoldable second : Starts (hash-literal rules ts rec start room) (entries rules ts rec (pair rules ts rec) turns (t ▸ nil) at left)
     unfolding first
     second = record { rest = _; eq = goes first e }
 
-    ended : {pairs : Trees} {at′ left′ : ℕ} → entries ts rec (pair ts rec) turns (t ▸ nil) at left ≡ read pairs at′ left′
-        → hash-literal ts rec start room ≡ closed ts SRBrace HashNotTerminated (tree.hash start pairs) at′ left′
+    ended : {pairs : Trees} {at′ left′ : ℕ} → entries rules ts rec (pair rules ts rec) turns (t ▸ nil) at left ≡ read pairs at′ left′
+        → hash-literal rules ts rec start room ≡ closed Always ts SRBrace HashNotTerminated (tree.hash start pairs) at′ left′
     unfolding second closed
     ended f = goes second f
 
@@ -82,7 +85,7 @@ module _ (t : ℕ) where
   same-length-2 c = c .before .before .before .before .pair .kept .1 .0
 
   pub returns-2 : lts.Need-returns-2 cs (hash-at t) hash-reads.Post
-  returns-2 c = pass-on (first (c .before .before .before .before .before .before .before .before .before .before .before .args .tokens .now) (expression (c .before .before .before .before .before .before .before .before .before .before .before .args .tokens .now) (c .before .before .before .before .before .before .before .before .before .before .before .args .less)) _ _ (sym (c .before .before .before .before .before .before .before .next-symbol-is .ensures) ∙ c .before .before .before .before .before .before .if1 .left) (c .before .before .before .before .before .before .before .before .iterate .ensures)) (c .before .before .before .before .pair .ensures) (c .enum-told .given .1)
+  returns-2 c = pass-on (first (by (c .before .before .before .before .before .before .before .before .before .before .before .args .mode)) (c .before .before .before .before .before .before .before .before .before .before .before .args .tokens .now) (expression (by (c .before .before .before .before .before .before .before .before .before .before .before .args .mode)) (c .before .before .before .before .before .before .before .before .before .before .before .args .tokens .now) (c .before .before .before .before .before .before .before .before .before .before .before .args .less)) _ _ (sym (c .before .before .before .before .before .before .before .next-symbol-is .ensures) ∙ c .before .before .before .before .before .before .if1 .left) (c .before .before .before .before .before .before .before .before .iterate .ensures)) (c .before .before .before .before .pair .ensures) (c .enum-told .given .1)
 
   pub entries-requires : lts.Need-entries-requires cs (hash-at t) hash-reads.Post
   entries-requires c κs =
@@ -99,7 +102,7 @@ module _ (t : ℕ) where
 
   pub returns-3 : lts.Need-returns-3 cs (hash-at t) hash-reads.Post
   unfolding item
-  returns-3 c = pass-on (second (c .before .before .before .before .before .before .before .before .before .before .before .before .before .before .before .before .before .before .args .tokens .now) (expression (c .before .before .before .before .before .before .before .before .before .before .before .before .before .before .before .before .before .before .args .tokens .now) (c .before .before .before .before .before .before .before .before .before .before .before .before .before .before .before .before .before .before .args .less)) _ _ (sym (c .before .before .before .before .before .before .before .before .before .before .before .before .before .before .next-symbol-is .ensures) ∙ c .before .before .before .before .before .before .before .before .before .before .before .before .before .if1 .left) (c .before .before .before .before .before .before .before .before .before .before .before .before .before .before .before .iterate .ensures) (read-1 (c .before .before .before .before .before .before .before) .eq)) (c .before .before .before .before .entries .ensures .1 _ _ _ _ (read-1 (c .before .before .before .before .before .before .before) .stands) (read-1 (c .before .before .before .before .before .before .before) .head)) (c .enum-told2 .given .1)
+  returns-3 c = pass-on (second (by (c .before .before .before .before .before .before .before .before .before .before .before .before .before .before .before .before .before .before .args .mode)) (c .before .before .before .before .before .before .before .before .before .before .before .before .before .before .before .before .before .before .args .tokens .now) (expression (by (c .before .before .before .before .before .before .before .before .before .before .before .before .before .before .before .before .before .before .args .mode)) (c .before .before .before .before .before .before .before .before .before .before .before .before .before .before .before .before .before .before .args .tokens .now) (c .before .before .before .before .before .before .before .before .before .before .before .before .before .before .before .before .before .before .args .less)) _ _ (sym (c .before .before .before .before .before .before .before .before .before .before .before .before .before .before .next-symbol-is .ensures) ∙ c .before .before .before .before .before .before .before .before .before .before .before .before .before .if1 .left) (c .before .before .before .before .before .before .before .before .before .before .before .before .before .before .before .iterate .ensures) (read-1 (c .before .before .before .before .before .before .before) .eq)) (c .before .before .before .before .entries .ensures .1 _ _ _ _ (read-1 (c .before .before .before .before .before .before .before) .stands) (read-1 (c .before .before .before .before .before .before .before) .head)) (c .enum-told2 .given .1)
 
   pub closed-requires : lts.Need-closed-requires cs (hash-at t) hash-reads.Post
   closed-requires c κs = (ready-same (c .before .before .before .before .before .before .before .before .before .before .before .before .before .before .before .before .before .before .before .before .pre .1) (c .before .before .before .before .before .before .entries .kept .1 .0 ∙ c .before .before .before .before .before .before .before .before .before .before .before .before .before .pair .kept .1 .0) (read-2 (c .before .before) .stands .within), small (c .before .before .before .before .before .before .before .before .before .before .before .before .before .before .before .before .before .before .before .before .pre .1))
@@ -110,5 +113,5 @@ module _ (t : ℕ) where
   pub returns-4 : lts.Need-returns-4 cs (hash-at t) hash-reads.Post
   unfolding item
   returns-4 c =
-      sooner (on-step _ _ (c .before .before .before .before .before .before .before .before .before .before .before .before .before .before .before .before .before .before .before .before .iterate .ensures)) (by-eq (ended (c .before .before .before .before .before .before .before .before .before .before .before .before .before .before .before .before .before .before .before .before .before .before .before .args .tokens .now) (expression (c .before .before .before .before .before .before .before .before .before .before .before .before .before .before .before .before .before .before .before .before .before .before .before .args .tokens .now) (c .before .before .before .before .before .before .before .before .before .before .before .before .before .before .before .before .before .before .before .before .before .before .before .args .less)) _ _ (sym (c .before .before .before .before .before .before .before .before .before .before .before .before .before .before .before .before .before .before .before .next-symbol-is .ensures) ∙ c .before .before .before .before .before .before .before .before .before .before .before .before .before .before .before .before .before .before .if1 .left) (c .before .before .before .before .before .before .before .before .before .before .before .before .before .before .before .before .before .before .before .before .iterate .ensures) (read-1 (c .before .before .before .before .before .before .before .before .before .before .before .before) .eq) (read-2 (c .before .before .before .before .before) .eq))
+      sooner (on-step _ _ (c .before .before .before .before .before .before .before .before .before .before .before .before .before .before .before .before .before .before .before .before .iterate .ensures)) (by-eq (ended (by (c .before .before .before .before .before .before .before .before .before .before .before .before .before .before .before .before .before .before .before .before .before .before .before .args .mode)) (c .before .before .before .before .before .before .before .before .before .before .before .before .before .before .before .before .before .before .before .before .before .before .before .args .tokens .now) (expression (by (c .before .before .before .before .before .before .before .before .before .before .before .before .before .before .before .before .before .before .before .before .before .before .before .args .mode)) (c .before .before .before .before .before .before .before .before .before .before .before .before .before .before .before .before .before .before .before .before .before .before .before .args .tokens .now) (c .before .before .before .before .before .before .before .before .before .before .before .before .before .before .before .before .before .before .before .before .before .before .before .args .less)) _ _ (sym (c .before .before .before .before .before .before .before .before .before .before .before .before .before .before .before .before .before .before .before .next-symbol-is .ensures) ∙ c .before .before .before .before .before .before .before .before .before .before .before .before .before .before .before .before .before .before .if1 .left) (c .before .before .before .before .before .before .before .before .before .before .before .before .before .before .before .before .before .before .before .before .iterate .ensures) (read-1 (c .before .before .before .before .before .before .before .before .before .before .before .before) .eq) (read-2 (c .before .before .before .before .before) .eq))
       (c .before .before .closed .ensures .1 _ [] _ _ _ _ (read-2 (c .before .before .before .before .before) .stands) (record { few = tt; root = of-node; refs = (read-2 (c .before .before .before .before .before) .head, refl, refl, refl) })))

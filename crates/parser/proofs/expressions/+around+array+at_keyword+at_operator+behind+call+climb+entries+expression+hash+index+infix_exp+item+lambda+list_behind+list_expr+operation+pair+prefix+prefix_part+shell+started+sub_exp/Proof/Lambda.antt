@@ -10,6 +10,8 @@ use Rattle.grammar.specs.Tree.{Tree, Trees}
 use Rattle.grammar.specs.Tree as tree
 use Rattle.grammar.specs.Parsed.{refused, read, build, ExpectedArrow}
 use Rattle.grammar.specs.Expressions.{Rec, expression, list-expr, lambda}
+use Rattle.grammar.specs.Rules.{Rules}
+use Rattle.words.specs.Modes.{by}
 use Rattle.parser.specs.Contracts.{item}
 use Rattle.parser.specs.Meets.{of-node}
 use Rattle.parser.proofs.Answers.{taken, TakenOf, by-eq, refuses, need-met, need-failed, Starts, starts-at, starts-after, goes, pass-on}
@@ -25,22 +27,22 @@ use Rattle.parser.proofs.expressions.+around+array+at_keyword+at_operat
 use Rattle.parser.proofs.expressions.+around+array+at_keyword+at_operator+behind+call+climb+entries+expression+hash+index+infix_exp+item+lambda+list_behind+list_expr+operation+pair+prefix+prefix_part+shell+started+sub_exp.Proof.Measures.{lambda-at, behind-below, list-expr-below}
 
 -- The definition, one reading after another.
-module _ (ts : List ℕ) (rec : Rec) (start room : ℕ) (more : next-is ts start SSemiColon ≡ false) (some : next-is ts start SImpl ≡ false) where
-  unfoldable first : Starts (lambda ts rec start room) (list-expr ts rec start room)
+module _ (rules : Rules) (ts : List ℕ) (rec : Rec) (start room : ℕ) (more : next-is ts start SSemiColon ≡ false) (some : next-is ts start SImpl ≡ false) where
+  unfoldable first : Starts (lambda rules ts rec start room) (list-expr rules ts rec start room)
   unfolding lambda
   first = record { rest = _; eq = need-met _ _ _ (ap not more) ∙ need-met _ _ _ (ap not some) }
 
-  module _ {parameters : Trees} {at left : ℕ} (e : list-expr ts rec start room ≡ read parameters at left) where
-    stops : next-is ts at SImpl ≡ false → lambda ts rec start room ≡ refused ExpectedArrow at
+  module _ {parameters : Trees} {at left : ℕ} (e : list-expr rules ts rec start room ≡ read parameters at left) where
+    stops : next-is ts at SImpl ≡ false → lambda rules ts rec start room ≡ refused ExpectedArrow at
     unfolding first
     stops n = goes first e ∙ need-failed _ _ _ n
 
     module _ {c d : ℕ} (met : next-is ts at SImpl ≡ true) (i : c ≡ step ts at) (j : d ≡ step ts c) where
-      unfoldable second : Starts (lambda ts rec start room) (rec Zero d left)
+      unfoldable second : Starts (lambda rules ts rec start room) (rec Zero d left)
       unfolding first
       second = starts-after (goes first e ∙ need-met _ _ _ met) (starts-at (λ (k : ℕ). rec Zero k left) _ (j ∙ ap (step ts) i))
 
-      ended : {body : Tree} {at′ left′ : ℕ} → rec Zero d left ≡ read body at′ left′ → lambda ts rec start room ≡ build (tree.lambda start parameters body) at′ left′
+      ended : {body : Tree} {at′ left′ : ℕ} → rec Zero d left ≡ read body at′ left′ → lambda rules ts rec start room ≡ build (tree.lambda start parameters body) at′ left′
       unfolding second
       ended f = goes second f
 
@@ -81,7 +83,7 @@ module _ (t : ℕ) where
   same-length c = c .before .before .before .before .list-expr .kept .1 .0
 
   pub returns-3 : lts.Need-returns-3 cs (lambda-at t) lambda-reads.Post
-  returns-3 c = pass-on (first (c .before .before .before .before .before .before .before .before .before .before .before .before .args .tokens .now) (expression (c .before .before .before .before .before .before .before .before .before .before .before .before .args .tokens .now) (c .before .before .before .before .before .before .before .before .before .before .before .before .args .less)) _ _ (sym (c .before .before .before .before .before .before .before .before .before .next-symbol-is .ensures) ∙ c .before .before .before .before .before .before .before .before .if1 .left) (sym (c .before .before .before .before .before .before .before .next-symbol-is2 .ensures) ∙ c .before .before .before .before .before .before .if2 .left)) (c .before .before .before .before .list-expr .ensures) (c .enum-told .given .1)
+  returns-3 c = pass-on (first (by (c .before .before .before .before .before .before .before .before .before .before .before .before .args .mode)) (c .before .before .before .before .before .before .before .before .before .before .before .before .args .tokens .now) (expression (by (c .before .before .before .before .before .before .before .before .before .before .before .before .args .mode)) (c .before .before .before .before .before .before .before .before .before .before .before .before .args .tokens .now) (c .before .before .before .before .before .before .before .before .before .before .before .before .args .less)) _ _ (sym (c .before .before .before .before .before .before .before .before .before .next-symbol-is .ensures) ∙ c .before .before .before .before .before .before .before .before .if1 .left) (sym (c .before .before .before .before .before .before .before .next-symbol-is2 .ensures) ∙ c .before .before .before .before .before .before .if2 .left)) (c .before .before .before .before .list-expr .ensures) (c .enum-told .given .1)
 
   pub next-symbol-is-requires-3 : lts.Need-next-symbol-is-requires-3 cs (lambda-at t) lambda-reads.Post
   next-symbol-is-requires-3 c κs = search needs
@@ -90,7 +92,7 @@ module _ (t : ℕ) where
   same-length-2 c = c .before .before .before .before .before .before .before .list-expr .kept .1 .0
 
   pub returns-4 : lts.Need-returns-4 cs (lambda-at t) lambda-reads.Post
-  returns-4 c = refuses _ _ _ (stops (c .before .before .before .before .before .before .before .before .before .before .before .before .before .before .before .args .tokens .now) (expression (c .before .before .before .before .before .before .before .before .before .before .before .before .before .before .before .args .tokens .now) (c .before .before .before .before .before .before .before .before .before .before .before .before .before .before .before .args .less)) _ _ (sym (c .before .before .before .before .before .before .before .before .before .before .before .before .next-symbol-is .ensures) ∙ c .before .before .before .before .before .before .before .before .before .before .before .if1 .left) (sym (c .before .before .before .before .before .before .before .before .before .before .next-symbol-is2 .ensures) ∙ c .before .before .before .before .before .before .before .before .before .if2 .left) (read-1 (c .before .before .before) .eq) (sym (c .before .next-symbol-is3 .ensures) ∙ not-true _ (c .if3 .taken)))
+  returns-4 c = refuses _ _ _ (stops (by (c .before .before .before .before .before .before .before .before .before .before .before .before .before .before .before .args .mode)) (c .before .before .before .before .before .before .before .before .before .before .before .before .before .before .before .args .tokens .now) (expression (by (c .before .before .before .before .before .before .before .before .before .before .before .before .before .before .before .args .mode)) (c .before .before .before .before .before .before .before .before .before .before .before .before .before .before .before .args .tokens .now) (c .before .before .before .before .before .before .before .before .before .before .before .before .before .before .before .args .less)) _ _ (sym (c .before .before .before .before .before .before .before .before .before .before .before .before .next-symbol-is .ensures) ∙ c .before .before .before .before .before .before .before .before .before .before .before .if1 .left) (sym (c .before .before .before .before .before .before .before .before .before .before .next-symbol-is2 .ensures) ∙ c .before .before .before .before .before .before .before .before .before .if2 .left) (read-1 (c .before .before .before) .eq) (sym (c .before .next-symbol-is3 .ensures) ∙ not-true _ (c .if3 .taken)))
 
   pub iterate-requires : lts.Need-iterate-requires cs (lambda-at t) lambda-reads.Post
   iterate-requires c κs = search needs
@@ -99,10 +101,9 @@ module _ (t : ℕ) where
   iterate-requires-2 c κs = search needs
 
   pub behind-requires : lts.Need-behind-requires cs (lambda-at t) lambda-reads.Post
-  behind-requires c κs = (
-    falls _ _ _ _ _ _ _ (c .before .before .before .before .before .before .before .before .before .before .before .before .before .before .before .before .before .before .pre .0) (le-trans (read-1 (c .before .before .before .before .before .before) .stands .on) (le-trans (on-step _ _ (c .before .before .iterate .ensures)) (on-step _ _ (c .before .iterate2 .ensures)))) (lit< tt),
-    (ready-step _ _ (c .before .iterate2 .ensures) (ready-step _ _ (c .before .before .iterate .ensures) (ready-same (c .before .before .before .before .before .before .before .before .before .before .before .before .before .before .before .before .before .before .pre .1) (c .before .before .before .before .before .before .before .before .before .before .list-expr .kept .1 .0) (read-1 (c .before .before .before .before .before .before) .stands .within))), front-le (read-1 (c .before .before .before .before .before .before) .stands .front)),
-  )
+  behind-requires c κs =
+      (falls _ _ _ _ _ _ _ (c .before .before .before .before .before .before .before .before .before .before .before .before .before .before .before .before .before .before .pre .0) (le-trans (read-1 (c .before .before .before .before .before .before) .stands .on) (le-trans (on-step _ _ (c .before .before .iterate .ensures)) (on-step _ _ (c .before .iterate2 .ensures)))) (lit< tt),
+      (ready-step _ _ (c .before .iterate2 .ensures) (ready-step _ _ (c .before .before .iterate .ensures) (ready-same (c .before .before .before .before .before .before .before .before .before .before .before .before .before .before .before .before .before .before .pre .1) (c .before .before .before .before .before .before .before .before .before .before .list-expr .kept .1 .0) (read-1 (c .before .before .before .before .before .before) .stands .within))), front-le (read-1 (c .before .before .before .before .before .before) .stands .front)))
 
   pub enum-known-q : lts.Need-enum-known-q cs (lambda-at t) lambda-reads.Post
   enum-known-q c = c .match2 .keys1
@@ -115,7 +116,7 @@ module _ (t : ℕ) where
 
   pub returns-5 : lts.Need-returns-5 cs (lambda-at t) lambda-reads.Post
   unfolding item
-  returns-5 c = pass-on (second (c .before .before .before .before .before .before .before .before .before .before .before .before .before .before .before .before .before .before .before .before .before .before .before .args .tokens .now) (expression (c .before .before .before .before .before .before .before .before .before .before .before .before .before .before .before .before .before .before .before .before .before .before .before .args .tokens .now) (c .before .before .before .before .before .before .before .before .before .before .before .before .before .before .before .before .before .before .before .before .before .before .before .args .less)) _ _ (sym (c .before .before .before .before .before .before .before .before .before .before .before .before .before .before .before .before .before .before .before .before .next-symbol-is .ensures) ∙ c .before .before .before .before .before .before .before .before .before .before .before .before .before .before .before .before .before .before .before .if1 .left) (sym (c .before .before .before .before .before .before .before .before .before .before .before .before .before .before .before .before .before .before .next-symbol-is2 .ensures) ∙ c .before .before .before .before .before .before .before .before .before .before .before .before .before .before .before .before .before .if2 .left) (read-1 (c .before .before .before .before .before .before .before .before .before .before .before) .eq) (sym (c .before .before .before .before .before .before .before .before .before .next-symbol-is3 .ensures) ∙ not-false _ (c .before .before .before .before .before .before .before .before .if3 .left)) (c .before .before .before .before .before .before .before .iterate .ensures) (c .before .before .before .before .before .before .iterate2 .ensures)) (c .before .before .before .before .behind .ensures .1 _ _ _ _ (stands-step _ _ (c .before .before .before .before .before .before .iterate2 .ensures) (stands-step _ _ (c .before .before .before .before .before .before .before .iterate .ensures) (read-1 (c .before .before .before .before .before .before .before .before .before .before .before) .stands)))) (c .enum-told2 .given .1)
+  returns-5 c = pass-on (second (by (c .before .before .before .before .before .before .before .before .before .before .before .before .before .before .before .before .before .before .before .before .before .before .before .args .mode)) (c .before .before .before .before .before .before .before .before .before .before .before .before .before .before .before .before .before .before .before .before .before .before .before .args .tokens .now) (expression (by (c .before .before .before .before .before .before .before .before .before .before .before .before .before .before .before .before .before .before .before .before .before .before .before .args .mode)) (c .before .before .before .before .before .before .before .before .before .before .before .before .before .before .before .before .before .before .before .before .before .before .before .args .tokens .now) (c .before .before .before .before .before .before .before .before .before .before .before .before .before .before .before .before .before .before .before .before .before .before .before .args .less)) _ _ (sym (c .before .before .before .before .before .before .before .before .before .before .before .before .before .before .before .before .before .before .before .before .next-symbol-is .ensures) ∙ c .before .before .before .before .before .before .before .before .before .before .before .before .before .before .before .before .before .before .before .if1 .left) (sym (c .before .before .before .before .before .before .before .before .before .before .before .before .before .before .before .before .before .before .next-symbol-is2 .ensures) ∙ c .before .before .before .before .before .before .before .before .before .before .before .before .before .before .before .before .before .if2 .left) (read-1 (c .before .before .before .before .before .before .before .before .before .before .before) .eq) (sym (c .before .before .before .before .before .before .before .before .before .next-symbol-is3 .ensures) ∙ not-false _ (c .before .before .before .before .before .before .before .before .if3 .left)) (c .before .before .before .before .before .before .before .iterate .ensures) (c .before .before .before .before .before .before .iterate2 .ensures)) (c .before .before .before .before .behind .ensures .1 _ _ _ _ (stands-step _ _ (c .before .before .before .before .before .before .iterate2 .ensures) (stands-step _ _ (c .before .before .before .before .before .before .before .iterate .ensures) (read-1 (c .before .before .before .before .before .before .before .before .before .before .before) .stands)))) (c .enum-told2 .given .1)
 
   pub put-row-requires : lts.Need-put-row-requires cs (lambda-at t) lambda-reads.Post
   put-row-requires c κs = (fits-same _ _ _ (c .before .before .before .before .before .before .before .before .before .before .before .before .before .before .before .before .before .before .before .before .before .before .before .before .before .pre .1 .fits) (c .before .before .before .before .before .before .behind .kept .1 .0 ∙ c .before .before .before .before .before .before .before .before .before .before .before .before .before .before .before .before .before .list-expr .kept .1 .0), small (c .before .before .before .before .before .before .before .before .before .before .before .before .before .before .before .before .before .before .before .before .before .before .before .before .before .pre .1))
@@ -126,5 +127,5 @@ module _ (t : ℕ) where
   pub returns-6 : lts.Need-returns-6 cs (lambda-at t) lambda-reads.Post
   unfolding item
   returns-6 c =
-      by-eq (ended (c .before .before .before .before .before .before .before .before .before .before .before .before .before .before .before .before .before .before .before .before .before .before .before .before .before .before .before .before .args .tokens .now) (expression (c .before .before .before .before .before .before .before .before .before .before .before .before .before .before .before .before .before .before .before .before .before .before .before .before .before .before .before .before .args .tokens .now) (c .before .before .before .before .before .before .before .before .before .before .before .before .before .before .before .before .before .before .before .before .before .before .before .before .before .before .before .before .args .less)) _ _ (sym (c .before .before .before .before .before .before .before .before .before .before .before .before .before .before .before .before .before .before .before .before .before .before .before .before .before .next-symbol-is .ensures) ∙ c .before .before .before .before .before .before .before .before .before .before .before .before .before .before .before .before .before .before .before .before .before .before .before .before .if1 .left) (sym (c .before .before .before .before .before .before .before .before .before .before .before .before .before .before .before .before .before .before .before .before .before .before .before .next-symbol-is2 .ensures) ∙ c .before .before .before .before .before .before .before .before .before .before .before .before .before .before .before .before .before .before .before .before .before .before .if2 .left) (read-1 (c .before .before .before .before .before .before .before .before .before .before .before .before .before .before .before .before) .eq) (sym (c .before .before .before .before .before .before .before .before .before .before .before .before .before .before .next-symbol-is3 .ensures) ∙ not-false _ (c .before .before .before .before .before .before .before .before .before .before .before .before .before .if3 .left)) (c .before .before .before .before .before .before .before .before .before .before .before .before .iterate .ensures) (c .before .before .before .before .before .before .before .before .before .before .before .iterate2 .ensures) (read-2 (c .before .before .before .before .before) .eq))
+      by-eq (ended (by (c .before .before .before .before .before .before .before .before .before .before .before .before .before .before .before .before .before .before .before .before .before .before .before .before .before .before .before .before .args .mode)) (c .before .before .before .before .before .before .before .before .before .before .before .before .before .before .before .before .before .before .before .before .before .before .before .before .before .before .before .before .args .tokens .now) (expression (by (c .before .before .before .before .before .before .before .before .before .before .before .before .before .before .before .before .before .before .before .before .before .before .before .before .before .before .before .before .args .mode)) (c .before .before .before .before .before .before .before .before .before .before .before .before .before .before .before .before .before .before .before .before .before .before .before .before .before .before .before .before .args .tokens .now) (c .before .before .before .before .before .before .before .before .before .before .before .before .before .before .before .before .before .before .before .before .before .before .before .before .before .before .before .before .args .less)) _ _ (sym (c .before .before .before .before .before .before .before .before .before .before .before .before .before .before .before .before .before .before .before .before .before .before .before .before .before .next-symbol-is .ensures) ∙ c .before .before .before .before .before .before .before .before .before .before .before .before .before .before .before .before .before .before .before .before .before .before .before .before .if1 .left) (sym (c .before .before .before .before .before .before .before .before .before .before .before .before .before .before .before .before .before .before .before .before .before .before .before .next-symbol-is2 .ensures) ∙ c .before .before .before .before .before .before .before .before .before .before .before .before .before .before .before .before .before .before .before .before .before .before .if2 .left) (read-1 (c .before .before .before .before .before .before .before .before .before .before .before .before .before .before .before .before) .eq) (sym (c .before .before .before .before .before .before .before .before .before .before .before .before .before .before .next-symbol-is3 .ensures) ∙ not-false _ (c .before .before .before .before .before .before .before .before .before .before .before .before .before .if3 .left)) (c .before .before .before .before .before .before .before .before .before .before .before .before .iterate .ensures) (c .before .before .before .before .before .before .before .before .before .before .before .iterate2 .ensures) (read-2 (c .before .before .before .before .before) .eq))
       (c .before .before .put-row .ensures (c .before .before .before .before .before .before .before .before .before .before .before .before .before .before .before .before .before .before .before .before .before .before .before .before .before .before .before .before .args .tokens .now) (read-2 (c .before .before .before .before .before) .stands .within) .1 _ [] _ _ _ _ (read-2 (c .before .before .before .before .before) .stands) (record { few = tt; root = of-node; refs = (read-1 (c .before .before .before .before .before .before .before .before .before .before .before .before .before .before .before .before) .head, read-2 (c .before .before .before .before .before) .head, refl, refl) }))

@@ -3,6 +3,7 @@ use lib.Dec.{lit<}
 use Prim.Native.Nat.{ℕ}
 use native.Mathlib.Omega.{arith}
 use Rattle.grammar.specs.Expressions.{expression, list-expr}
+use Rattle.words.specs.Modes.{by}
 use Rattle.parser.proofs.Answers.{taken, TakenOf, bounded-tree, bounded-told}
 use Rattle.parser.proofs.Parts.{ready-lent, in-part, back-read, back-refused, back-same, part-length}
 use Rattle.parser.proofs.Moves.{falls, le-refl}
@@ -54,16 +55,14 @@ module _ (t : ℕ) where
   same-length c = back-same (c .before .before .before .before .before .before .end .result) (c .before .before .before .before .before .before .before .before .before .args .pool .now) (c .before .before .before .before .list-expr .last .1 .0) (c .before .before .before .before .list-expr .kept .1 .0)
 
   pub returns : lts.Need-returns cs (list-behind-at t) list-behind-reads.Post
-  returns c = (bounded-told (c .enum-told .given .1), λ from slots zs left s. back-refused (in-part (list-expr (c .before .before .before .before .before .before .before .before .before .args .tokens .now) (expression (c .before .before .before .before .before .before .before .before .before .args .tokens .now) (c .before .before .before .before .before .before .before .before .before .args .less)) (c .before .before .before .before .before .before .before .before .before .args .c)) s (rw (c .before .before .before .before .before .before .end .ensures) at (c .before .before .before .before .list-expr .ensures))) (c .enum-told .given .1))
+  returns c = (bounded-told (c .enum-told .given .1), λ from slots zs left s. back-refused (in-part (list-expr (by (c .before .before .before .before .before .before .before .before .before .args .mode)) (c .before .before .before .before .before .before .before .before .before .args .tokens .now) (expression (by (c .before .before .before .before .before .before .before .before .before .args .mode)) (c .before .before .before .before .before .before .before .before .before .args .tokens .now) (c .before .before .before .before .before .before .before .before .before .args .less)) (c .before .before .before .before .before .before .before .before .before .args .c)) s (rw (c .before .before .before .before .before .before .end .ensures) at (c .before .before .before .before .list-expr .ensures))) (c .enum-told .given .1))
 
-  pub add-t13 : lts.Need-add-t13 cs (list-behind-at t) list-behind-reads.Post
-  add-t13 c = omega (arith, read-1 (c .before) .stands .front .fit, part-length (c .before .before .before .before .before .before .before .before .before .before .args .rows) (c .before .before .before .before .before .before .before .before .before .before .args .pool .now), c .before .before .before .before .before .before .before .before .before .before .pre .1 .1, c .before .before .before .before .before .before .before .before .before .before .pre .1 .0 .fits)
+  pub add-t14 : lts.Need-add-t14 cs (list-behind-at t) list-behind-reads.Post
+  add-t14 c = omega (arith, read-1 (c .before) .stands .front .fit, part-length (c .before .before .before .before .before .before .before .before .before .before .args .rows) (c .before .before .before .before .before .before .before .before .before .before .args .pool .now), c .before .before .before .before .before .before .before .before .before .before .pre .1 .1, c .before .before .before .before .before .before .before .before .before .before .pre .1 .0 .fits)
 
   pub same-length-2 : lts.Need-same-length-2 cs (list-behind-at t) list-behind-reads.Post
   same-length-2 c = back-same (c .before .before .before .before .before .before .before .end .result) (c .before .before .before .before .before .before .before .before .before .before .args .pool .now) (c .before .before .before .before .before .list-expr .last .1 .0) (c .before .before .before .before .before .list-expr .kept .1 .0)
 
   pub returns-2 : lts.Need-returns-2 cs (list-behind-at t) list-behind-reads.Post
-  returns-2 c = (
-    bounded-tree (omega (arith, read-1 (c .before) .stands .front .fit, part-length (c .before .before .before .before .before .before .before .before .before .before .args .rows) (c .before .before .before .before .before .before .before .before .before .before .args .pool .now), c .before .before .before .before .before .before .before .before .before .before .pre .1 .1)) (read-1 (c .before) .stands .on) (read-1 (c .before) .stands .within),
-    λ from slots zs left s. rw (c .before .before .before .before .before .before .before .end .ensures) (back-read s (in-part (list-expr (c .before .before .before .before .before .before .before .before .before .before .args .tokens .now) (expression (c .before .before .before .before .before .before .before .before .before .before .args .tokens .now) (c .before .before .before .before .before .before .before .before .before .before .args .less)) (c .before .before .before .before .before .before .before .before .before .before .args .c)) s (rw (c .before .before .before .before .before .before .before .end .ensures) at (c .before .before .before .before .before .list-expr .ensures))) (c .before .r .given .1)),
-  )
+  returns-2 c = (bounded-tree (omega (arith, read-1 (c .before) .stands .front .fit, part-length (c .before .before .before .before .before .before .before .before .before .before .args .rows) (c .before .before .before .before .before .before .before .before .before .before .args .pool .now), c .before .before .before .before .before .before .before .before .before .before .pre .1 .1)) (read-1 (c .before) .stands .on) (read-1 (c .before) .stands .within),
+      λ from slots zs left s. rw (c .before .before .before .before .before .before .before .end .ensures) (back-read s (in-part (list-expr (by (c .before .before .before .before .before .before .before .before .before .before .args .mode)) (c .before .before .before .before .before .before .before .before .before .before .args .tokens .now) (expression (by (c .before .before .before .before .before .before .before .before .before .before .args .mode)) (c .before .before .before .before .before .before .before .before .before .before .args .tokens .now) (c .before .before .before .before .before .before .before .before .before .before .args .less)) (c .before .before .before .before .before .before .before .before .before .before .args .c)) s (rw (c .before .before .before .before .before .before .before .end .ensures) at (c .before .before .before .before .before .list-expr .ensures))) (c .before .r .given .1)))

@@ -51,7 +51,7 @@ use Rattle.parser.proofs.expressions.sub_exp.Reads as sub-exp-reads
 use Rattle.parser.proofs.expressions.sub_exp.Kinds as sub-exp-kinds
 
 abbrev pub μ-around : Measures 2 around-kinds.ps ℕ
-μ-around κs a = 16 * (a .1 .1 .1 .1 .1 .1 .1 .0 + (length (a .0 .now) - a .1 .1 .1 .0)) + 1
+μ-around κs a = 16 * (a .1 .1 .1 .1 .1 .1 .1 .1 .0 + (length (a .0 .now) - a .1 .1 .1 .0)) + 1
 
 abbrev pub around-at : ℕ → In 2 around-kinds.ps
 around-at t = and 2 around-kinds.ps (is 2 around-kinds.ps μ-around t) around-reads.Pre
@@ -60,7 +60,7 @@ abbrev pub around-below : ℕ → In 2 around-kinds.ps
 around-below t = and 2 around-kinds.ps (falls 2 around-kinds.ps _<_ μ-around t) around-reads.Pre
 
 abbrev pub μ-array : Measures 2 array-kinds.ps ℕ
-μ-array κs a = 16 * (a .1 .1 .1 .1 .0 + (length (a .0 .now) - a .1 .1 .1 .0)) + 7
+μ-array κs a = 16 * (a .1 .1 .1 .1 .1 .0 + (length (a .0 .now) - a .1 .1 .1 .0)) + 7
 
 abbrev pub array-at : ℕ → In 2 array-kinds.ps
 array-at t = and 2 array-kinds.ps (is 2 array-kinds.ps μ-array t) array-reads.Pre
@@ -69,7 +69,7 @@ abbrev pub array-below : ℕ → In 2 array-kinds.ps
 array-below t = and 2 array-kinds.ps (falls 2 array-kinds.ps _<_ μ-array t) array-reads.Pre
 
 abbrev pub μ-at-keyword : Measures 2 at-keyword-kinds.ps ℕ
-μ-at-keyword κs a = 16 * (a .1 .1 .1 .1 .1 .0 + (length (a .0 .now) - a .1 .1 .1 .0)) + 8
+μ-at-keyword κs a = 16 * (a .1 .1 .1 .1 .1 .1 .0 + (length (a .0 .now) - a .1 .1 .1 .0)) + 8
 
 abbrev pub at-keyword-at : ℕ → In 2 at-keyword-kinds.ps
 at-keyword-at t = and 2 at-keyword-kinds.ps (is 2 at-keyword-kinds.ps μ-at-keyword t) at-keyword-reads.Pre
@@ -78,7 +78,7 @@ abbrev pub at-keyword-below : ℕ → In 2 at-keyword-kinds.ps
 at-keyword-below t = and 2 at-keyword-kinds.ps (falls 2 at-keyword-kinds.ps _<_ μ-at-keyword t) at-keyword-reads.Pre
 
 abbrev pub μ-at-operator : Measures 2 at-operator-kinds.ps ℕ
-μ-at-operator κs a = 16 * (a .1 .1 .1 .1 .1 .0 + (length (a .0 .now) - a .1 .1 .1 .0)) + 8
+μ-at-operator κs a = 16 * (a .1 .1 .1 .1 .1 .1 .0 + (length (a .0 .now) - a .1 .1 .1 .0)) + 8
 
 abbrev pub at-operator-at : ℕ → In 2 at-operator-kinds.ps
 at-operator-at t = and 2 at-operator-kinds.ps (is 2 at-operator-kinds.ps μ-at-operator t) at-operator-reads.Pre
@@ -87,7 +87,7 @@ abbrev pub at-operator-below : ℕ → In 2 at-operator-kinds.ps
 at-operator-below t = and 2 at-operator-kinds.ps (falls 2 at-operator-kinds.ps _<_ μ-at-operator t) at-operator-reads.Pre
 
 abbrev pub μ-behind : Measures 2 behind-kinds.ps ℕ
-μ-behind κs a = 16 * (a .1 .1 .1 .1 .1 .1 .1 .0 + (length (a .0 .now) - a .1 .1 .1 .1 .0)) + 4
+μ-behind κs a = 16 * (a .1 .1 .1 .1 .1 .1 .1 .1 .0 + (length (a .0 .now) - a .1 .1 .1 .1 .0)) + 4
 
 abbrev pub behind-at : ℕ → In 2 behind-kinds.ps
 behind-at t = and 2 behind-kinds.ps (is 2 behind-kinds.ps μ-behind t) behind-reads.Pre
@@ -96,7 +96,7 @@ abbrev pub behind-below : ℕ → In 2 behind-kinds.ps
 behind-below t = and 2 behind-kinds.ps (falls 2 behind-kinds.ps _<_ μ-behind t) behind-reads.Pre
 
 abbrev pub μ-call : Measures 2 call-kinds.ps ℕ
-μ-call κs a = 16 * (a .1 .1 .1 .1 .1 .1 .0 + (length (a .0 .now) - a .1 .1 .1 .1 .1 .0)) + 8
+μ-call κs a = 16 * (a .1 .1 .1 .1 .1 .1 .1 .0 + (length (a .0 .now) - a .1 .1 .1 .1 .1 .0)) + 8
 
 abbrev pub call-at : ℕ → In 2 call-kinds.ps
 call-at t = and 2 call-kinds.ps (is 2 call-kinds.ps μ-call t) call-reads.Pre
@@ -105,7 +105,7 @@ abbrev pub call-below : ℕ → In 2 call-kinds.ps
 call-below t = and 2 call-kinds.ps (falls 2 call-kinds.ps _<_ μ-call t) call-reads.Pre
 
 abbrev pub μ-climb : Measures 2 climb-kinds.ps ℕ
-μ-climb κs a = 16 * (a .1 .1 .1 .1 .1 .1 .1 .0 + (length (a .0 .now) - a .1 .1 .1 .1 .1 .0)) + 10
+μ-climb κs a = 16 * (a .1 .1 .1 .1 .1 .1 .1 .1 .0 + (length (a .0 .now) - a .1 .1 .1 .1 .1 .0)) + 10
 
 abbrev pub climb-at : ℕ → In 2 climb-kinds.ps
 climb-at t = and 2 climb-kinds.ps (is 2 climb-kinds.ps μ-climb t) climb-reads.Pre
@@ -114,7 +114,7 @@ abbrev pub climb-below : ℕ → In 2 climb-kinds.ps
 climb-below t = and 2 climb-kinds.ps (falls 2 climb-kinds.ps _<_ μ-climb t) climb-reads.Pre
 
 abbrev pub μ-entries : Measures 2 entries-kinds.ps ℕ
-μ-entries κs a = 16 * (a .1 .1 .1 .1 .1 .1 .1 .0 + (length (a .0 .now) - a .1 .1 .1 .1 .1 .0)) + 5
+μ-entries κs a = 16 * (a .1 .1 .1 .1 .1 .1 .1 .1 .0 + (length (a .0 .now) - a .1 .1 .1 .1 .1 .0)) + 5
 
 abbrev pub entries-at : ℕ → In 2 entries-kinds.ps
 entries-at t = and 2 entries-kinds.ps (is 2 entries-kinds.ps μ-entries t) entries-reads.Pre
@@ -123,7 +123,7 @@ abbrev pub entries-below : ℕ → In 2 entries-kinds.ps
 entries-below t = and 2 entries-kinds.ps (falls 2 entries-kinds.ps _<_ μ-entries t) entries-reads.Pre
 
 abbrev pub μ-expression : Measures 2 expression-kinds.ps ℕ
-μ-expression κs a = 16 * (a .1 .1 .1 .1 .1 .0 + (length (a .0 .now) - a .1 .1 .1 .0)) + 0
+μ-expression κs a = 16 * (a .1 .1 .1 .1 .1 .1 .0 + (length (a .0 .now) - a .1 .1 .1 .0)) + 0
 
 abbrev pub expression-at : ℕ → In 2 expression-kinds.ps
 expression-at t = and 2 expression-kinds.ps (is 2 expression-kinds.ps μ-expression t) expression-reads.Pre
@@ -132,7 +132,7 @@ abbrev pub expression-below : ℕ → In 2 expression-kinds.ps
 expression-below t = and 2 expression-kinds.ps (falls 2 expression-kinds.ps _<_ μ-expression t) expression-reads.Pre
 
 abbrev pub μ-hash : Measures 2 hash-kinds.ps ℕ
-μ-hash κs a = 16 * (a .1 .1 .1 .1 .0 + (length (a .0 .now) - a .1 .1 .1 .0)) + 6
+μ-hash κs a = 16 * (a .1 .1 .1 .1 .1 .0 + (length (a .0 .now) - a .1 .1 .1 .0)) + 6
 
 abbrev pub hash-at : ℕ → In 2 hash-kinds.ps
 hash-at t = and 2 hash-kinds.ps (is 2 hash-kinds.ps μ-hash t) hash-reads.Pre
@@ -141,7 +141,7 @@ abbrev pub hash-below : ℕ → In 2 hash-kinds.ps
 hash-below t = and 2 hash-kinds.ps (falls 2 hash-kinds.ps _<_ μ-hash t) hash-reads.Pre
 
 abbrev pub μ-index : Measures 2 index-kinds.ps ℕ
-μ-index κs a = 16 * (a .1 .1 .1 .1 .1 .1 .0 + (length (a .0 .now) - a .1 .1 .1 .1 .1 .0)) + 5
+μ-index κs a = 16 * (a .1 .1 .1 .1 .1 .1 .1 .0 + (length (a .0 .now) - a .1 .1 .1 .1 .1 .0)) + 5
 
 abbrev pub index-at : ℕ → In 2 index-kinds.ps
 index-at t = and 2 index-kinds.ps (is 2 index-kinds.ps μ-index t) index-reads.Pre
@@ -150,7 +150,7 @@ abbrev pub index-below : ℕ → In 2 index-kinds.ps
 index-below t = and 2 index-kinds.ps (falls 2 index-kinds.ps _<_ μ-index t) index-reads.Pre
 
 abbrev pub μ-infix-exp : Measures 2 infix-exp-kinds.ps ℕ
-μ-infix-exp κs a = 16 * (a .1 .1 .1 .1 .1 .1 .0 + (length (a .0 .now) - a .1 .1 .1 .1 .1 .0)) + 5
+μ-infix-exp κs a = 16 * (a .1 .1 .1 .1 .1 .1 .1 .0 + (length (a .0 .now) - a .1 .1 .1 .1 .1 .0)) + 5
 
 abbrev pub infix-exp-at : ℕ → In 2 infix-exp-kinds.ps
 infix-exp-at t = and 2 infix-exp-kinds.ps (is 2 infix-exp-kinds.ps μ-infix-exp t) infix-exp-reads.Pre
@@ -159,7 +159,7 @@ abbrev pub infix-exp-below : ℕ → In 2 infix-exp-kinds.ps
 infix-exp-below t = and 2 infix-exp-kinds.ps (falls 2 infix-exp-kinds.ps _<_ μ-infix-exp t) infix-exp-reads.Pre
 
 abbrev pub μ-item : Measures 2 item-kinds.ps ℕ
-μ-item κs a = 16 * (a .1 .1 .1 .1 .1 .1 .0 + (length (a .0 .now) - a .1 .1 .1 .0)) + 3
+μ-item κs a = 16 * (a .1 .1 .1 .1 .1 .1 .1 .0 + (length (a .0 .now) - a .1 .1 .1 .0)) + 3
 
 abbrev pub item-at : ℕ → In 2 item-kinds.ps
 item-at t = and 2 item-kinds.ps (is 2 item-kinds.ps μ-item t) item-reads.Pre
@@ -168,7 +168,7 @@ abbrev pub item-below : ℕ → In 2 item-kinds.ps
 item-below t = and 2 item-kinds.ps (falls 2 item-kinds.ps _<_ μ-item t) item-reads.Pre
 
 abbrev pub μ-lambda : Measures 2 lambda-kinds.ps ℕ
-μ-lambda κs a = 16 * (a .1 .1 .1 .1 .0 + (length (a .0 .now) - a .1 .1 .1 .0)) + 7
+μ-lambda κs a = 16 * (a .1 .1 .1 .1 .1 .0 + (length (a .0 .now) - a .1 .1 .1 .0)) + 7
 
 abbrev pub lambda-at : ℕ → In 2 lambda-kinds.ps
 lambda-at t = and 2 lambda-kinds.ps (is 2 lambda-kinds.ps μ-lambda t) lambda-reads.Pre
@@ -177,7 +177,7 @@ abbrev pub lambda-below : ℕ → In 2 lambda-kinds.ps
 lambda-below t = and 2 lambda-kinds.ps (falls 2 lambda-kinds.ps _<_ μ-lambda t) lambda-reads.Pre
 
 abbrev pub μ-list-behind : Measures 2 list-behind-kinds.ps ℕ
-μ-list-behind κs a = 16 * (a .1 .1 .1 .1 .1 .0 + (length (a .0 .now) - a .1 .1 .1 .1 .0)) + 7
+μ-list-behind κs a = 16 * (a .1 .1 .1 .1 .1 .1 .0 + (length (a .0 .now) - a .1 .1 .1 .1 .0)) + 7
 
 abbrev pub list-behind-at : ℕ → In 2 list-behind-kinds.ps
 list-behind-at t = and 2 list-behind-kinds.ps (is 2 list-behind-kinds.ps μ-list-behind t) list-behind-reads.Pre
@@ -186,7 +186,7 @@ abbrev pub list-behind-below : ℕ → In 2 list-behind-kinds.ps
 list-behind-below t = and 2 list-behind-kinds.ps (falls 2 list-behind-kinds.ps _<_ μ-list-behind t) list-behind-reads.Pre
 
 abbrev pub μ-list-expr : Measures 2 list-expr-kinds.ps ℕ
-μ-list-expr κs a = 16 * (a .1 .1 .1 .1 .0 + (length (a .0 .now) - a .1 .1 .1 .0)) + 6
+μ-list-expr κs a = 16 * (a .1 .1 .1 .1 .1 .0 + (length (a .0 .now) - a .1 .1 .1 .0)) + 6
 
 abbrev pub list-expr-at : ℕ → In 2 list-expr-kinds.ps
 list-expr-at t = and 2 list-expr-kinds.ps (is 2 list-expr-kinds.ps μ-list-expr t) list-expr-reads.Pre
@@ -195,7 +195,7 @@ abbrev pub list-expr-below : ℕ → In 2 list-expr-kinds.ps
 list-expr-below t = and 2 list-expr-kinds.ps (falls 2 list-expr-kinds.ps _<_ μ-list-expr t) list-expr-reads.Pre
 
 abbrev pub μ-operation : Measures 2 operation-kinds.ps ℕ
-μ-operation κs a = 16 * (a .1 .1 .1 .1 .1 .1 .0 + (length (a .0 .now) - a .1 .1 .1 .1 .1 .0)) + 9
+μ-operation κs a = 16 * (a .1 .1 .1 .1 .1 .1 .1 .0 + (length (a .0 .now) - a .1 .1 .1 .1 .1 .0)) + 9
 
 abbrev pub operation-at : ℕ → In 2 operation-kinds.ps
 operation-at t = and 2 operation-kinds.ps (is 2 operation-kinds.ps μ-operation t) operation-reads.Pre
@@ -204,7 +204,7 @@ abbrev pub operation-below : ℕ → In 2 operation-kinds.ps
 operation-below t = and 2 operation-kinds.ps (falls 2 operation-kinds.ps _<_ μ-operation t) operation-reads.Pre
 
 abbrev pub μ-pair : Measures 2 pair-kinds.ps ℕ
-μ-pair κs a = 16 * (a .1 .1 .1 .1 .0 + (length (a .0 .now) - a .1 .1 .1 .0)) + 2
+μ-pair κs a = 16 * (a .1 .1 .1 .1 .1 .0 + (length (a .0 .now) - a .1 .1 .1 .0)) + 2
 
 abbrev pub pair-at : ℕ → In 2 pair-kinds.ps
 pair-at t = and 2 pair-kinds.ps (is 2 pair-kinds.ps μ-pair t) pair-reads.Pre
@@ -213,7 +213,7 @@ abbrev pub pair-below : ℕ → In 2 pair-kinds.ps
 pair-below t = and 2 pair-kinds.ps (falls 2 pair-kinds.ps _<_ μ-pair t) pair-reads.Pre
 
 abbrev pub μ-prefix : Measures 2 prefix-kinds.ps ℕ
-μ-prefix κs a = 16 * (a .1 .1 .1 .1 .1 .0 + (length (a .0 .now) - a .1 .1 .1 .0)) + 2
+μ-prefix κs a = 16 * (a .1 .1 .1 .1 .1 .1 .0 + (length (a .0 .now) - a .1 .1 .1 .0)) + 2
 
 abbrev pub prefix-at : ℕ → In 2 prefix-kinds.ps
 prefix-at t = and 2 prefix-kinds.ps (is 2 prefix-kinds.ps μ-prefix t) prefix-reads.Pre
@@ -222,7 +222,7 @@ abbrev pub prefix-below : ℕ → In 2 prefix-kinds.ps
 prefix-below t = and 2 prefix-kinds.ps (falls 2 prefix-kinds.ps _<_ μ-prefix t) prefix-reads.Pre
 
 abbrev pub μ-prefix-part : Measures 2 prefix-part-kinds.ps ℕ
-μ-prefix-part κs a = 16 * (a .1 .1 .1 .1 .0 + (length (a .0 .now) - a .1 .1 .1 .0)) + 9
+μ-prefix-part κs a = 16 * (a .1 .1 .1 .1 .1 .0 + (length (a .0 .now) - a .1 .1 .1 .0)) + 9
 
 abbrev pub prefix-part-at : ℕ → In 2 prefix-part-kinds.ps
 prefix-part-at t = and 2 prefix-part-kinds.ps (is 2 prefix-part-kinds.ps μ-prefix-part t) prefix-part-reads.Pre
@@ -231,7 +231,7 @@ abbrev pub prefix-part-below : ℕ → In 2 prefix-part-kinds.ps
 prefix-part-below t = and 2 prefix-part-kinds.ps (falls 2 prefix-part-kinds.ps _<_ μ-prefix-part t) prefix-part-reads.Pre
 
 abbrev pub μ-shell : Measures 2 shell-kinds.ps ℕ
-μ-shell κs a = 16 * (a .1 .1 .1 .1 .0 + (length (a .0 .now) - a .1 .1 .1 .0)) + 2
+μ-shell κs a = 16 * (a .1 .1 .1 .1 .1 .0 + (length (a .0 .now) - a .1 .1 .1 .0)) + 2
 
 abbrev pub shell-at : ℕ → In 2 shell-kinds.ps
 shell-at t = and 2 shell-kinds.ps (is 2 shell-kinds.ps μ-shell t) shell-reads.Pre
@@ -240,7 +240,7 @@ abbrev pub shell-below : ℕ → In 2 shell-kinds.ps
 shell-below t = and 2 shell-kinds.ps (falls 2 shell-kinds.ps _<_ μ-shell t) shell-reads.Pre
 
 abbrev pub μ-started : Measures 2 started-kinds.ps ℕ
-μ-started κs a = 16 * (a .1 .1 .1 .1 .1 .0 + (length (a .0 .now) - a .1 .1 .1 .0)) + 1
+μ-started κs a = 16 * (a .1 .1 .1 .1 .1 .1 .0 + (length (a .0 .now) - a .1 .1 .1 .0)) + 1
 
 abbrev pub started-at : ℕ → In 2 started-kinds.ps
 started-at t = and 2 started-kinds.ps (is 2 started-kinds.ps μ-started t) started-reads.Pre
@@ -249,7 +249,7 @@ abbrev pub started-below : ℕ → In 2 started-kinds.ps
 started-below t = and 2 started-kinds.ps (falls 2 started-kinds.ps _<_ μ-started t) started-reads.Pre
 
 abbrev pub μ-sub-exp : Measures 2 sub-exp-kinds.ps ℕ
-μ-sub-exp κs a = 16 * (a .1 .1 .1 .1 .0 + (length (a .0 .now) - a .1 .1 .1 .0)) + 1
+μ-sub-exp κs a = 16 * (a .1 .1 .1 .1 .1 .0 + (length (a .0 .now) - a .1 .1 .1 .0)) + 1
 
 abbrev pub sub-exp-at : ℕ → In 2 sub-exp-kinds.ps
 sub-exp-at t = and 2 sub-exp-kinds.ps (is 2 sub-exp-kinds.ps μ-sub-exp t) sub-exp-reads.Pre

@@ -11,6 +11,7 @@ use Rattle.grammar.specs.Expressions.{Rec, operation, infix-expression, suffix-
 use Rattle.tokens.proofs.Arms.{token-arm, operator-arm}
 use Rattle.tokens.proofs.Tests.{but}
 use Rattle.answer.specs.declared.Read.{Read}
+use Rattle.grammar.specs.Rules.{Rules}
 use Rattle.parser.specs.Meets.{of-node}
 use Rattle.parser.specs.Contracts.{Follows}
 use Rattle.parser.proofs.Answers.{by-eq}
@@ -30,10 +31,10 @@ use Rattle.parser.proofs.expressions.+around+array+at_keyword+at_operat
 abbrev others : ℕ → Bool
 others = none (SIncr ∷ SDecr ∷ SLParen ∷ SLBox ∷ [])
 
-by-infix : {ts : List ℕ} {at first rows head w : ℕ} {r : Read} {xs ys : List ℕ} (rec : Rec) → tok ts at ≡ w → others w ≡ true
-    → Follows (infix-expression ts rec) ts at first rows head r xs ys → Follows (operation ts rec) ts at first rows head r xs ys
+by-infix : {ts : List ℕ} {at first rows head w : ℕ} {r : Read} {xs ys : List ℕ} (rules : Rules) (rec : Rec) → tok ts at ≡ w → others w ≡ true
+    → Follows (infix-expression rules ts rec) ts at first rows head r xs ys → Follows (operation rules ts rec) ts at first rows head r xs ys
 unfolding operation
-by-infix rec e h f = (f .0, λ from t zs left s g. by-eq (unmatched _ _ _ _ _ (rw e h)) (f .1 from t zs left s g))
+by-infix rules rec e h f = (f .0, λ from t zs left s g. by-eq (unmatched _ _ _ _ _ (rw e h)) (f .1 from t zs left s g))
 
 module _ (t : ℕ) where
   abbrev cs : lts.Claims
@@ -109,4 +110,4 @@ module _ (t : ℕ) where
   same-length-5 c = search needs
 
   pub returns-6 : lts.Need-returns-6 cs (operation-at t) operation-reads.Post
-  returns-6 c = by-infix _ (word-of (c .before .before .before .before .before .before .before .before .before .before .before .pre .1 .0) (c .before .before .before .before .before .before .before .before .current .ensures)) (operator-arm others (but (5 ∷ 29 ∷ 30 ∷ 34 ∷ []) 41) (c .before .before .before .before .before .before .t .given .1) (c .before .before .before .before .match2 .keys5) refl) (c .before .before .infix-exp .ensures)
+  returns-6 c = by-infix _ _ (word-of (c .before .before .before .before .before .before .before .before .before .before .before .pre .1 .0) (c .before .before .before .before .before .before .before .before .current .ensures)) (operator-arm others (but (5 ∷ 29 ∷ 30 ∷ 34 ∷ []) 41) (c .before .before .before .before .before .before .t .given .1) (c .before .before .before .before .match2 .keys5) refl) (c .before .before .infix-exp .ensures)

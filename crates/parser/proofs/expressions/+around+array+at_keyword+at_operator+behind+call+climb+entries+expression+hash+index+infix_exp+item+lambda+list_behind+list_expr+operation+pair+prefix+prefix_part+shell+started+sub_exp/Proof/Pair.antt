@@ -11,6 +11,8 @@ use Rattle.grammar.specs.Tree.{Tree}
 use Rattle.grammar.specs.Tree as tree
 use Rattle.grammar.specs.Parsed.{refused, read, build, ExpectedColon}
 use Rattle.grammar.specs.Expressions.{Rec, expression, pair}
+use Rattle.grammar.specs.Rules.{Rules}
+use Rattle.words.specs.Modes.{by}
 use Rattle.parser.specs.Contracts.{item}
 use Rattle.parser.specs.Meets.{of-node}
 use Rattle.parser.proofs.Answers.{taken, TakenOf, by-eq, refuses, need-met, need-failed, Starts, starts-at, starts-after, goes, pass-on}
@@ -26,22 +28,22 @@ use Rattle.parser.proofs.expressions.+around+array+at_keyword+at_operat
 use Rattle.parser.proofs.expressions.+around+array+at_keyword+at_operator+behind+call+climb+entries+expression+hash+index+infix_exp+item+lambda+list_behind+list_expr+operation+pair+prefix+prefix_part+shell+started+sub_exp.Proof.Measures.{pair-at, behind-below, expression-below}
 
 -- The definition, one reading after another.
-module _ (ts : List ℕ) (rec : Rec) (start room : ℕ) where
-  unfoldable first : Starts (pair ts rec start room) (rec Zero start room)
+module _ (rules : Rules) (ts : List ℕ) (rec : Rec) (start room : ℕ) where
+  unfoldable first : Starts (pair rules ts rec start room) (rec Zero start room)
   unfolding pair
   first = record { rest = _; eq = refl }
 
   module _ {key : Tree} {at left : ℕ} (e : rec Zero start room ≡ read key at left) where
-    stops : next-is ts at SColon ≡ false → pair ts rec start room ≡ refused ExpectedColon at
+    stops : next-is ts at SColon ≡ false → pair rules ts rec start room ≡ refused ExpectedColon at
     unfolding first
     stops n = goes first e ∙ need-failed _ _ _ n
 
     module _ {c d : ℕ} (met : next-is ts at SColon ≡ true) (i : c ≡ step ts at) (j : d ≡ step ts c) where
-      unfoldable second : Starts (pair ts rec start room) (rec Zero d left)
+      unfoldable second : Starts (pair rules ts rec start room) (rec Zero d left)
       unfolding first
       second = starts-after (goes first e ∙ need-met _ _ _ met) (starts-at (λ (k : ℕ). rec Zero k left) _ (j ∙ ap (step ts) i))
 
-      ended : {value : Tree} {end left′ : ℕ} → rec Zero d left ≡ read value end left′ → pair ts rec start room ≡ build (tree.pair c key value) end left′
+      ended : {value : Tree} {end left′ : ℕ} → rec Zero d left ≡ read value end left′ → pair rules ts rec start room ≡ build (tree.pair c key value) end left′
       unfolding second
       ended {value} {end} {left′} f = goes second f ∙ ap (λ (k : ℕ). build (tree.pair k key value) end left′) (sym i)
 
@@ -68,7 +70,7 @@ module _ (t : ℕ) where
   same-length c = c .before .before .before .before .expression .kept .1 .0
 
   pub returns : lts.Need-returns cs (pair-at t) pair-reads.Post
-  returns c = pass-on (first (c .before .before .before .before .before .before .before .before .args .tokens .now) (expression (c .before .before .before .before .before .before .before .before .args .tokens .now) (c .before .before .before .before .before .before .before .before .args .less)) _ _) (c .before .before .before .before .expression .ensures) (c .enum-told .given .1)
+  returns c = pass-on (first (by (c .before .before .before .before .before .before .before .before .args .mode)) (c .before .before .before .before .before .before .before .before .args .tokens .now) (expression (by (c .before .before .before .before .before .before .before .before .args .mode)) (c .before .before .before .before .before .before .before .before .args .tokens .now) (c .before .before .before .before .before .before .before .before .args .less)) _ _) (c .before .before .before .before .expression .ensures) (c .enum-told .given .1)
 
   pub iterate-requires : lts.Need-iterate-requires cs (pair-at t) pair-reads.Post
   iterate-requires c κs = search needs
@@ -80,16 +82,15 @@ module _ (t : ℕ) where
   same-length-2 c = c .before .before .before .before .before .before .before .before .expression .kept .1 .0
 
   pub returns-2 : lts.Need-returns-2 cs (pair-at t) pair-reads.Post
-  returns-2 c = refuses _ _ _ (stops (c .before .before .before .before .before .before .before .before .before .before .before .before .args .tokens .now) (expression (c .before .before .before .before .before .before .before .before .before .before .before .before .args .tokens .now) (c .before .before .before .before .before .before .before .before .before .before .before .before .args .less)) _ _ (read-1 (c .before .before .before .before) .eq) (sym (c .before .next-symbol-is .ensures) ∙ not-true _ (c .if1 .taken)))
+  returns-2 c = refuses _ _ _ (stops (by (c .before .before .before .before .before .before .before .before .before .before .before .before .args .mode)) (c .before .before .before .before .before .before .before .before .before .before .before .before .args .tokens .now) (expression (by (c .before .before .before .before .before .before .before .before .before .before .before .before .args .mode)) (c .before .before .before .before .before .before .before .before .before .before .before .before .args .tokens .now) (c .before .before .before .before .before .before .before .before .before .before .before .before .args .less)) _ _ (read-1 (c .before .before .before .before) .eq) (sym (c .before .next-symbol-is .ensures) ∙ not-true _ (c .if1 .taken)))
 
   pub iterate-requires-2 : lts.Need-iterate-requires-2 cs (pair-at t) pair-reads.Post
   iterate-requires-2 c κs = search needs
 
   pub behind-requires : lts.Need-behind-requires cs (pair-at t) pair-reads.Post
-  behind-requires c κs = (
-    omega (arith, c .before .before .before .before .before .before .before .before .before .before .before .before .before .before .pre .0, read-1 (c .before .before .before .before .before .before) .stands .on, read-1 (c .before .before .before .before .before .before) .stands .within, moves-next SColon (c .before .before .before .before .before .before .before .before .before .before .before .before .before .before .pre .1 .sound) (read-1 (c .before .before .before .before .before .before) .stands .within) (sym (c .before .before .before .next-symbol-is .ensures) ∙ not-false _ (c .before .before .if1 .left)) refl, c .before .before .before .before .iterate .ensures, on-step _ _ (c .iterate2 .ensures)),
-    (ready-step _ _ (c .iterate2 .ensures) (ready-step _ _ (c .before .before .before .before .iterate .ensures) (ready-same (c .before .before .before .before .before .before .before .before .before .before .before .before .before .before .pre .1) (c .before .before .before .before .before .before .before .before .before .before .expression .kept .1 .0) (read-1 (c .before .before .before .before .before .before) .stands .within))), front-le (read-1 (c .before .before .before .before .before .before) .stands .front)),
-  )
+  behind-requires c κs =
+      (omega (arith, c .before .before .before .before .before .before .before .before .before .before .before .before .before .before .pre .0, read-1 (c .before .before .before .before .before .before) .stands .on, read-1 (c .before .before .before .before .before .before) .stands .within, moves-next SColon (c .before .before .before .before .before .before .before .before .before .before .before .before .before .before .pre .1 .sound) (read-1 (c .before .before .before .before .before .before) .stands .within) (sym (c .before .before .before .next-symbol-is .ensures) ∙ not-false _ (c .before .before .if1 .left)) refl, c .before .before .before .before .iterate .ensures, on-step _ _ (c .iterate2 .ensures)),
+      (ready-step _ _ (c .iterate2 .ensures) (ready-step _ _ (c .before .before .before .before .iterate .ensures) (ready-same (c .before .before .before .before .before .before .before .before .before .before .before .before .before .before .pre .1) (c .before .before .before .before .before .before .before .before .before .before .expression .kept .1 .0) (read-1 (c .before .before .before .before .before .before) .stands .within))), front-le (read-1 (c .before .before .before .before .before .before) .stands .front)))
 
   pub enum-known-q : lts.Need-enum-known-q cs (pair-at t) pair-reads.Post
   enum-known-q c = c .match2 .keys1
@@ -102,7 +103,7 @@ module _ (t : ℕ) where
 
   pub returns-3 : lts.Need-returns-3 cs (pair-at t) pair-reads.Post
   unfolding item
-  returns-3 c = pass-on (second (c .before .before .before .before .before .before .before .before .before .before .before .before .before .before .before .before .before .before .before .args .tokens .now) (expression (c .before .before .before .before .before .before .before .before .before .before .before .before .before .before .before .before .before .before .before .args .tokens .now) (c .before .before .before .before .before .before .before .before .before .before .before .before .before .before .before .before .before .before .before .args .less)) _ _ (read-1 (c .before .before .before .before .before .before .before .before .before .before .before) .eq) (sym (c .before .before .before .before .before .before .before .before .next-symbol-is .ensures) ∙ not-false _ (c .before .before .before .before .before .before .before .if1 .left)) (c .before .before .before .before .before .before .before .before .before .iterate .ensures) (c .before .before .before .before .before .iterate2 .ensures)) (c .before .before .before .before .behind .ensures .1 _ _ _ _ (stands-step _ _ (c .before .before .before .before .before .iterate2 .ensures) (stands-step _ _ (c .before .before .before .before .before .before .before .before .before .iterate .ensures) (read-1 (c .before .before .before .before .before .before .before .before .before .before .before) .stands)))) (c .enum-told2 .given .1)
+  returns-3 c = pass-on (second (by (c .before .before .before .before .before .before .before .before .before .before .before .before .before .before .before .before .before .before .before .args .mode)) (c .before .before .before .before .before .before .before .before .before .before .before .before .before .before .before .before .before .before .before .args .tokens .now) (expression (by (c .before .before .before .before .before .before .before .before .before .before .before .before .before .before .before .before .before .before .before .args .mode)) (c .before .before .before .before .before .before .before .before .before .before .before .before .before .before .before .before .before .before .before .args .tokens .now) (c .before .before .before .before .before .before .before .before .before .before .before .before .before .before .before .before .before .before .before .args .less)) _ _ (read-1 (c .before .before .before .before .before .before .before .before .before .before .before) .eq) (sym (c .before .before .before .before .before .before .before .before .next-symbol-is .ensures) ∙ not-false _ (c .before .before .before .before .before .before .before .if1 .left)) (c .before .before .before .before .before .before .before .before .before .iterate .ensures) (c .before .before .before .before .before .iterate2 .ensures)) (c .before .before .before .before .behind .ensures .1 _ _ _ _ (stands-step _ _ (c .before .before .before .before .before .iterate2 .ensures) (stands-step _ _ (c .before .before .before .before .before .before .before .before .before .iterate .ensures) (read-1 (c .before .before .before .before .before .before .before .before .before .before .before) .stands)))) (c .enum-told2 .given .1)
 
   pub put-row-requires : lts.Need-put-row-requires cs (pair-at t) pair-reads.Post
   put-row-requires c κs =
@@ -114,5 +115,5 @@ module _ (t : ℕ) where
   pub returns-4 : lts.Need-returns-4 cs (pair-at t) pair-reads.Post
   unfolding item
   returns-4 c =
-      by-eq (ended (c .before .before .before .before .before .before .before .before .before .before .before .before .before .before .before .before .before .before .before .before .before .before .before .before .args .tokens .now) (expression (c .before .before .before .before .before .before .before .before .before .before .before .before .before .before .before .before .before .before .before .before .before .before .before .before .args .tokens .now) (c .before .before .before .before .before .before .before .before .before .before .before .before .before .before .before .before .before .before .before .before .before .before .before .before .args .less)) _ _ (read-1 (c .before .before .before .before .before .before .before .before .before .before .before .before .before .before .before .before) .eq) (sym (c .before .before .before .before .before .before .before .before .before .before .before .before .before .next-symbol-is .ensures) ∙ not-false _ (c .before .before .before .before .before .before .before .before .before .before .before .before .if1 .left)) (c .before .before .before .before .before .before .before .before .before .before .before .before .before .before .iterate .ensures) (c .before .before .before .before .before .before .before .before .before .before .iterate2 .ensures) (read-2 (c .before .before .before .before .before) .eq))
+      by-eq (ended (by (c .before .before .before .before .before .before .before .before .before .before .before .before .before .before .before .before .before .before .before .before .before .before .before .before .args .mode)) (c .before .before .before .before .before .before .before .before .before .before .before .before .before .before .before .before .before .before .before .before .before .before .before .before .args .tokens .now) (expression (by (c .before .before .before .before .before .before .before .before .before .before .before .before .before .before .before .before .before .before .before .before .before .before .before .before .args .mode)) (c .before .before .before .before .before .before .before .before .before .before .before .before .before .before .before .before .before .before .before .before .before .before .before .before .args .tokens .now) (c .before .before .before .before .before .before .before .before .before .before .before .before .before .before .before .before .before .before .before .before .before .before .before .before .args .less)) _ _ (read-1 (c .before .before .before .before .before .before .before .before .before .before .before .before .before .before .before .before) .eq) (sym (c .before .before .before .before .before .before .before .before .before .before .before .before .before .next-symbol-is .ensures) ∙ not-false _ (c .before .before .before .before .before .before .before .before .before .before .before .before .if1 .left)) (c .before .before .before .before .before .before .before .before .before .before .before .before .before .before .iterate .ensures) (c .before .before .before .before .before .before .before .before .before .before .iterate2 .ensures) (read-2 (c .before .before .before .before .before) .eq))
       (c .before .before .put-row .ensures (c .before .before .before .before .before .before .before .before .before .before .before .before .before .before .before .before .before .before .before .before .before .before .before .before .args .tokens .now) (read-2 (c .before .before .before .before .before) .stands .within) .1 _ [] _ _ _ _ (read-2 (c .before .before .before .before .before) .stands) (record { few = tt; root = of-node; refs = (read-1 (c .before .before .before .before .before .before .before .before .before .before .before .before .before .before .before .before) .head, read-2 (c .before .before .before .before .before) .head, refl, refl) }))

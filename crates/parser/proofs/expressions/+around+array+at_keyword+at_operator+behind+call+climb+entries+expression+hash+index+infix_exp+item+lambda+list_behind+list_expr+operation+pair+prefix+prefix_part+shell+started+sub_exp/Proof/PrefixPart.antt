@@ -119,4 +119,4 @@ module _ (t : ℕ) where
 
   pub returns-8 : lts.Need-returns-8 cs (prefix-part-at t) prefix-part-reads.Post
   unfolding class codes
-  returns-8 c = unstarted _ _ 11 (word-of (c .before .before .before .before .pre .1) (c .before .current .ensures)) (token-arm (no-start 11) (but (3 ∷ 4 ∷ 5 ∷ 6 ∷ 7 ∷ 8 ∷ 9 ∷ []) 11) (c .before .current .result) (c .match .keys8) refl)
+  returns-8 c = unstarted _ _ _ 11 (word-of (c .before .before .before .before .pre .1) (c .before .current .ensures)) (token-arm (no-start 11) (but (3 ∷ 4 ∷ 5 ∷ 6 ∷ 7 ∷ 8 ∷ 9 ∷ []) 11) (c .before .current .result) (c .match .keys8) refl)

@@ -3,6 +3,7 @@ use lib.Dec.{lit<}
 use Prim.Native.Nat.{ℕ}
 use native.Mathlib.Omega.{arith}
 use Rattle.grammar.specs.Statements.{statement}
+use Rattle.words.specs.Modes.{by}
 use Rattle.parser.proofs.Answers.{taken, TakenOf, bounded-tree, bounded-told}
 use Rattle.parser.proofs.Ends.{not-at-end, begun-told}
 use Rattle.parser.proofs.Parts.{ready-lent, in-part, back-read, back-refused, back-same, part-length}
@@ -11,8 +12,8 @@ use borrow.Author.Needs.{needs}
 use Rattle.rows.proofs.end.Reads as end-reads
 use Rattle.parser.proofs.statements.one_behind.Reads as one-behind-reads
 use Rattle.parser.proofs.statements.statement.Reads as statement-reads
-use Rattle.parser.proofs.statements.+at_keyword+block+block_behind+body+braced+else_block+finally_block+for_each+for_loop+function+if_statement+one_behind+open_body+statement+statements+try_statement+while_statement.Lts-one_behind as lts
-use Rattle.parser.proofs.statements.+at_keyword+block+block_behind+body+braced+else_block+finally_block+for_each+for_loop+function+if_statement+one_behind+open_body+statement+statements+try_statement+while_statement.Proof.Measures.{one-behind-at, statement-below}
+use Rattle.parser.proofs.statements.+at_keyword+block+block_behind+body+braced+else_block+finally_block+for_each+for_loop+function+if_statement+one_behind+statement+statements+try_statement+while_statement.Lts-one_behind as lts
+use Rattle.parser.proofs.statements.+at_keyword+block+block_behind+body+braced+else_block+finally_block+for_each+for_loop+function+if_statement+one_behind+statement+statements+try_statement+while_statement.Proof.Measures.{one-behind-at, statement-below}
 
 module _ (t : ℕ) where
   abbrev cs : lts.Claims
@@ -55,19 +56,14 @@ module _ (t : ℕ) where
   same-length c = back-same (c .before .before .before .before .before .before .end .result) (c .before .before .before .before .before .before .before .before .before .args .pool .now) (c .before .before .before .before .statement .last .1 .0) (c .before .before .before .before .statement .kept .1 .0)
 
   pub returns : lts.Need-returns cs (one-behind-at t) one-behind-reads.Post
-  returns c = (begun-told (c .enum-told .given .1), (bounded-told (c .enum-told .given .1), λ from slots zs left s. back-refused (in-part (statement (c .before .before .before .before .before .before .before .before .before .args .tokens .now) (c .before .before .before .before .before .before .before .before .before .args .allow) (c .before .before .before .before .before .before .before .before .before .args .c)) s (rw (c .before .before .before .before .before .before .end .ensures) at (c .before .before .before .before .statement .ensures))) (c .enum-told .given .1)))
+  returns c = (begun-told (c .enum-told .given .1), (bounded-told (c .enum-told .given .1), λ from slots zs left s. back-refused (in-part (statement (by (c .before .before .before .before .before .before .before .before .before .args .mode)) (c .before .before .before .before .before .before .before .before .before .args .tokens .now) (c .before .before .before .before .before .before .before .before .before .args .allow) (c .before .before .before .before .before .before .before .before .before .args .c)) s (rw (c .before .before .before .before .before .before .end .ensures) at (c .before .before .before .before .statement .ensures))) (c .enum-told .given .1)))
 
-  pub add-t13 : lts.Need-add-t13 cs (one-behind-at t) one-behind-reads.Post
-  add-t13 c = omega (arith, read-1 (c .before) .stands .front .fit, part-length (c .before .before .before .before .before .before .before .before .before .before .args .rows) (c .before .before .before .before .before .before .before .before .before .before .args .pool .now), c .before .before .before .before .before .before .before .before .before .before .pre .1 .1, c .before .before .before .before .before .before .before .before .before .before .pre .1 .0 .fits)
+  pub add-t14 : lts.Need-add-t14 cs (one-behind-at t) one-behind-reads.Post
+  add-t14 c = omega (arith, read-1 (c .before) .stands .front .fit, part-length (c .before .before .before .before .before .before .before .before .before .before .args .rows) (c .before .before .before .before .before .before .before .before .before .before .args .pool .now), c .before .before .before .before .before .before .before .before .before .before .pre .1 .1, c .before .before .before .before .before .before .before .before .before .before .pre .1 .0 .fits)
 
   pub same-length-2 : lts.Need-same-length-2 cs (one-behind-at t) one-behind-reads.Post
   same-length-2 c = back-same (c .before .before .before .before .before .before .before .end .result) (c .before .before .before .before .before .before .before .before .before .before .args .pool .now) (c .before .before .before .before .before .statement .last .1 .0) (c .before .before .before .before .before .statement .kept .1 .0)
 
   pub returns-2 : lts.Need-returns-2 cs (one-behind-at t) one-behind-reads.Post
-  returns-2 c = (
-    record { begun = not-at-end _ _ _ _ (read-1 (c .before) .eq) },
-    (
-      bounded-tree (omega (arith, read-1 (c .before) .stands .front .fit, part-length (c .before .before .before .before .before .before .before .before .before .before .args .rows) (c .before .before .before .before .before .before .before .before .before .before .args .pool .now), c .before .before .before .before .before .before .before .before .before .before .pre .1 .1)) (read-1 (c .before) .stands .on) (read-1 (c .before) .stands .within),
-      λ from slots zs left s. rw (c .before .before .before .before .before .before .before .end .ensures) (back-read s (in-part (statement (c .before .before .before .before .before .before .before .before .before .before .args .tokens .now) (c .before .before .before .before .before .before .before .before .before .before .args .allow) (c .before .before .before .before .before .before .before .before .before .before .args .c)) s (rw (c .before .before .before .before .before .before .before .end .ensures) at (c .before .before .before .before .before .statement .ensures))) (c .before .r .given .1)),
-    ),
-  )
+  returns-2 c = (record { begun = not-at-end _ _ _ _ _ (read-1 (c .before) .eq) }, (bounded-tree (omega (arith, read-1 (c .before) .stands .front .fit, part-length (c .before .before .before .before .before .before .before .before .before .before .args .rows) (c .before .before .before .before .before .before .before .before .before .before .args .pool .now), c .before .before .before .before .before .before .before .before .before .before .pre .1 .1)) (read-1 (c .before) .stands .on) (read-1 (c .before) .stands .within),
+      λ from slots zs left s. rw (c .before .before .before .before .before .before .before .end .ensures) (back-read s (in-part (statement (by (c .before .before .before .before .before .before .before .before .before .before .args .mode)) (c .before .before .before .before .before .before .before .before .before .before .args .tokens .now) (c .before .before .before .before .before .before .before .before .before .before .args .allow) (c .before .before .before .before .before .before .before .before .before .before .args .c)) s (rw (c .before .before .before .before .before .before .before .end .ensures) at (c .before .before .before .before .before .statement .ensures))) (c .before .r .given .1))))

@@ -27,8 +27,6 @@ use Rattle.parser.proofs.statements.if_statement.Reads as if-statement-
 use Rattle.parser.proofs.statements.if_statement.Kinds as if-statement-kinds
 use Rattle.parser.proofs.statements.one_behind.Reads as one-behind-reads
 use Rattle.parser.proofs.statements.one_behind.Kinds as one-behind-kinds
-use Rattle.parser.proofs.statements.open_body.Reads as open-body-reads
-use Rattle.parser.proofs.statements.open_body.Kinds as open-body-kinds
 use Rattle.parser.proofs.statements.statement.Reads as statement-reads
 use Rattle.parser.proofs.statements.statement.Kinds as statement-kinds
 use Rattle.parser.proofs.statements.statements.Reads as statements-reads
@@ -39,7 +37,7 @@ use Rattle.parser.proofs.statements.while_statement.Reads as while-stat
 use Rattle.parser.proofs.statements.while_statement.Kinds as while-statement-kinds
 
 abbrev pub μ-at-keyword : Measures 2 at-keyword-kinds.ps ℕ
-μ-at-keyword κs a = 16 * (a .1 .1 .1 .1 .1 .0 + (length (a .0 .now) - a .1 .1 .1 .0)) + 7
+μ-at-keyword κs a = 16 * (a .1 .1 .1 .1 .1 .1 .0 + (length (a .0 .now) - a .1 .1 .1 .0)) + 8
 
 abbrev pub at-keyword-at : ℕ → In 2 at-keyword-kinds.ps
 at-keyword-at t = and 2 at-keyword-kinds.ps (is 2 at-keyword-kinds.ps μ-at-keyword t) at-keyword-reads.Pre
@@ -48,7 +46,7 @@ abbrev pub at-keyword-below : ℕ → In 2 at-keyword-kinds.ps
 at-keyword-below t = and 2 at-keyword-kinds.ps (falls 2 at-keyword-kinds.ps _<_ μ-at-keyword t) at-keyword-reads.Pre
 
 abbrev pub μ-block : Measures 2 block-kinds.ps ℕ
-μ-block κs a = 16 * (a .1 .1 .1 .1 .0 + (length (a .0 .now) - a .1 .1 .1 .0)) + 3
+μ-block κs a = 16 * (a .1 .1 .1 .1 .1 .0 + (length (a .0 .now) - a .1 .1 .1 .0)) + 3
 
 abbrev pub block-at : ℕ → In 2 block-kinds.ps
 block-at t = and 2 block-kinds.ps (is 2 block-kinds.ps μ-block t) block-reads.Pre
@@ -57,7 +55,7 @@ abbrev pub block-below : ℕ → In 2 block-kinds.ps
 block-below t = and 2 block-kinds.ps (falls 2 block-kinds.ps _<_ μ-block t) block-reads.Pre
 
 abbrev pub μ-block-behind : Measures 2 block-behind-kinds.ps ℕ
-μ-block-behind κs a = 16 * (a .1 .1 .1 .1 .1 .0 + (length (a .0 .now) - a .1 .1 .1 .1 .0)) + 4
+μ-block-behind κs a = 16 * (a .1 .1 .1 .1 .1 .1 .0 + (length (a .0 .now) - a .1 .1 .1 .1 .0)) + 4
 
 abbrev pub block-behind-at : ℕ → In 2 block-behind-kinds.ps
 block-behind-at t = and 2 block-behind-kinds.ps (is 2 block-behind-kinds.ps μ-block-behind t) block-behind-reads.Pre
@@ -66,7 +64,7 @@ abbrev pub block-behind-below : ℕ → In 2 block-behind-kinds.ps
 block-behind-below t = and 2 block-behind-kinds.ps (falls 2 block-behind-kinds.ps _<_ μ-block-behind t) block-behind-reads.Pre
 
 abbrev pub μ-body : Measures 2 body-kinds.ps ℕ
-μ-body κs a = 16 * (a .1 .1 .1 .1 .1 .1 .1 .1 .0 + (length (a .0 .now) - a .1 .1 .1 .1 .0)) + 5
+μ-body κs a = 16 * (a .1 .1 .1 .1 .1 .1 .1 .1 .1 .1 .0 + (length (a .0 .now) - a .1 .1 .1 .1 .0)) + 5
 
 abbrev pub body-at : ℕ → In 2 body-kinds.ps
 body-at t = and 2 body-kinds.ps (is 2 body-kinds.ps μ-body t) body-reads.Pre
@@ -75,7 +73,7 @@ abbrev pub body-below : ℕ → In 2 body-kinds.ps
 body-below t = and 2 body-kinds.ps (falls 2 body-kinds.ps _<_ μ-body t) body-reads.Pre
 
 abbrev pub μ-braced : Measures 2 braced-kinds.ps ℕ
-μ-braced κs a = 16 * (a .1 .1 .1 .1 .1 .0 + (length (a .0 .now) - a .1 .1 .1 .1 .0)) + 5
+μ-braced κs a = 16 * (a .1 .1 .1 .1 .1 .1 .1 .1 .0 + (length (a .0 .now) - a .1 .1 .1 .1 .0)) + 5
 
 abbrev pub braced-at : ℕ → In 2 braced-kinds.ps
 braced-at t = and 2 braced-kinds.ps (is 2 braced-kinds.ps μ-braced t) braced-reads.Pre
@@ -84,7 +82,7 @@ abbrev pub braced-below : ℕ → In 2 braced-kinds.ps
 braced-below t = and 2 braced-kinds.ps (falls 2 braced-kinds.ps _<_ μ-braced t) braced-reads.Pre
 
 abbrev pub μ-else-block : Measures 2 else-block-kinds.ps ℕ
-μ-else-block κs a = 16 * (a .1 .1 .1 .1 .1 .0 + (length (a .0 .now) - a .1 .1 .1 .1 .0)) + 5
+μ-else-block κs a = 16 * (a .1 .1 .1 .1 .1 .1 .0 + (length (a .0 .now) - a .1 .1 .1 .1 .0)) + 6
 
 abbrev pub else-block-at : ℕ → In 2 else-block-kinds.ps
 else-block-at t = and 2 else-block-kinds.ps (is 2 else-block-kinds.ps μ-else-block t) else-block-reads.Pre
@@ -93,7 +91,7 @@ abbrev pub else-block-below : ℕ → In 2 else-block-kinds.ps
 else-block-below t = and 2 else-block-kinds.ps (falls 2 else-block-kinds.ps _<_ μ-else-block t) else-block-reads.Pre
 
 abbrev pub μ-finally-block : Measures 2 finally-block-kinds.ps ℕ
-μ-finally-block κs a = 16 * (a .1 .1 .1 .1 .1 .0 + (length (a .0 .now) - a .1 .1 .1 .1 .0)) + 5
+μ-finally-block κs a = 16 * (a .1 .1 .1 .1 .1 .1 .0 + (length (a .0 .now) - a .1 .1 .1 .1 .0)) + 6
 
 abbrev pub finally-block-at : ℕ → In 2 finally-block-kinds.ps
 finally-block-at t = and 2 finally-block-kinds.ps (is 2 finally-block-kinds.ps μ-finally-block t) finally-block-reads.Pre
@@ -102,7 +100,7 @@ abbrev pub finally-block-below : ℕ → In 2 finally-block-kinds.ps
 finally-block-below t = and 2 finally-block-kinds.ps (falls 2 finally-block-kinds.ps _<_ μ-finally-block t) finally-block-reads.Pre
 
 abbrev pub μ-for-each : Measures 2 for-each-kinds.ps ℕ
-μ-for-each κs a = 16 * (a .1 .1 .1 .1 .0 + (length (a .0 .now) - a .1 .1 .1 .0)) + 6
+μ-for-each κs a = 16 * (a .1 .1 .1 .1 .1 .0 + (length (a .0 .now) - a .1 .1 .1 .0)) + 6
 
 abbrev pub for-each-at : ℕ → In 2 for-each-kinds.ps
 for-each-at t = and 2 for-each-kinds.ps (is 2 for-each-kinds.ps μ-for-each t) for-each-reads.Pre
@@ -111,7 +109,7 @@ abbrev pub for-each-below : ℕ → In 2 for-each-kinds.ps
 for-each-below t = and 2 for-each-kinds.ps (falls 2 for-each-kinds.ps _<_ μ-for-each t) for-each-reads.Pre
 
 abbrev pub μ-for-loop : Measures 2 for-loop-kinds.ps ℕ
-μ-for-loop κs a = 16 * (a .1 .1 .1 .1 .0 + (length (a .0 .now) - a .1 .1 .1 .0)) + 6
+μ-for-loop κs a = 16 * (a .1 .1 .1 .1 .1 .0 + (length (a .0 .now) - a .1 .1 .1 .0)) + 6
 
 abbrev pub for-loop-at : ℕ → In 2 for-loop-kinds.ps
 for-loop-at t = and 2 for-loop-kinds.ps (is 2 for-loop-kinds.ps μ-for-loop t) for-loop-reads.Pre
@@ -120,7 +118,7 @@ abbrev pub for-loop-below : ℕ → In 2 for-loop-kinds.ps
 for-loop-below t = and 2 for-loop-kinds.ps (falls 2 for-loop-kinds.ps _<_ μ-for-loop t) for-loop-reads.Pre
 
 abbrev pub μ-function : Measures 2 function-kinds.ps ℕ
-μ-function κs a = 16 * (a .1 .1 .1 .1 .0 + (length (a .0 .now) - a .1 .1 .1 .0)) + 6
+μ-function κs a = 16 * (a .1 .1 .1 .1 .1 .0 + (length (a .0 .now) - a .1 .1 .1 .0)) + 6
 
 abbrev pub function-at : ℕ → In 2 function-kinds.ps
 function-at t = and 2 function-kinds.ps (is 2 function-kinds.ps μ-function t) function-reads.Pre
@@ -129,7 +127,7 @@ abbrev pub function-below : ℕ → In 2 function-kinds.ps
 function-below t = and 2 function-kinds.ps (falls 2 function-kinds.ps _<_ μ-function t) function-reads.Pre
 
 abbrev pub μ-if-statement : Measures 2 if-statement-kinds.ps ℕ
-μ-if-statement κs a = 16 * (a .1 .1 .1 .1 .0 + (length (a .0 .now) - a .1 .1 .1 .0)) + 6
+μ-if-statement κs a = 16 * (a .1 .1 .1 .1 .1 .0 + (length (a .0 .now) - a .1 .1 .1 .0)) + 7
 
 abbrev pub if-statement-at : ℕ → In 2 if-statement-kinds.ps
 if-statement-at t = and 2 if-statement-kinds.ps (is 2 if-statement-kinds.ps μ-if-statement t) if-statement-reads.Pre
@@ -138,7 +136,7 @@ abbrev pub if-statement-below : ℕ → In 2 if-statement-kinds.ps
 if-statement-below t = and 2 if-statement-kinds.ps (falls 2 if-statement-kinds.ps _<_ μ-if-statement t) if-statement-reads.Pre
 
 abbrev pub μ-one-behind : Measures 2 one-behind-kinds.ps ℕ
-μ-one-behind κs a = 16 * (a .1 .1 .1 .1 .1 .0 + (length (a .0 .now) - a .1 .1 .1 .1 .0)) + 1
+μ-one-behind κs a = 16 * (a .1 .1 .1 .1 .1 .1 .0 + (length (a .0 .now) - a .1 .1 .1 .1 .0)) + 1
 
 abbrev pub one-behind-at : ℕ → In 2 one-behind-kinds.ps
 one-behind-at t = and 2 one-behind-kinds.ps (is 2 one-behind-kinds.ps μ-one-behind t) one-behind-reads.Pre
@@ -146,17 +144,8 @@ one-behind-at t = and 2 one-behind-kinds.ps (is 2 one-behind-kinds.ps μ-one-beh
 abbrev pub one-behind-below : ℕ → In 2 one-behind-kinds.ps
 one-behind-below t = and 2 one-behind-kinds.ps (falls 2 one-behind-kinds.ps _<_ μ-one-behind t) one-behind-reads.Pre
 
-abbrev pub μ-open-body : Measures 2 open-body-kinds.ps ℕ
-μ-open-body κs a = 16 * (a .1 .1 .1 .1 .1 .1 .0 + (length (a .0 .now) - a .1 .1 .1 .1 .0)) + 5
-
-abbrev pub open-body-at : ℕ → In 2 open-body-kinds.ps
-open-body-at t = and 2 open-body-kinds.ps (is 2 open-body-kinds.ps μ-open-body t) open-body-reads.Pre
-
-abbrev pub open-body-below : ℕ → In 2 open-body-kinds.ps
-open-body-below t = and 2 open-body-kinds.ps (falls 2 open-body-kinds.ps _<_ μ-open-body t) open-body-reads.Pre
-
 abbrev pub μ-statement : Measures 2 statement-kinds.ps ℕ
-μ-statement κs a = 16 * (a .1 .1 .1 .1 .0 + (length (a .0 .now) - a .1 .1 .1 .0)) + 0
+μ-statement κs a = 16 * (a .1 .1 .1 .1 .1 .0 + (length (a .0 .now) - a .1 .1 .1 .0)) + 0
 
 abbrev pub statement-at : ℕ → In 2 statement-kinds.ps
 statement-at t = and 2 statement-kinds.ps (is 2 statement-kinds.ps μ-statement t) statement-reads.Pre
@@ -165,7 +154,7 @@ abbrev pub statement-below : ℕ → In 2 statement-kinds.ps
 statement-below t = and 2 statement-kinds.ps (falls 2 statement-kinds.ps _<_ μ-statement t) statement-reads.Pre
 
 abbrev pub μ-statements : Measures 2 statements-kinds.ps ℕ
-μ-statements κs a = 16 * (a .1 .1 .1 .1 .1 .1 .1 .0 + (length (a .0 .now) - a .1 .1 .1 .1 .1 .0)) + 2
+μ-statements κs a = 16 * (a .1 .1 .1 .1 .1 .1 .1 .1 .0 + (length (a .0 .now) - a .1 .1 .1 .1 .1 .0)) + 2
 
 abbrev pub statements-at : ℕ → In 2 statements-kinds.ps
 statements-at t = and 2 statements-kinds.ps (is 2 statements-kinds.ps μ-statements t) statements-reads.Pre
@@ -174,7 +163,7 @@ abbrev pub statements-below : ℕ → In 2 statements-kinds.ps
 statements-below t = and 2 statements-kinds.ps (falls 2 statements-kinds.ps _<_ μ-statements t) statements-reads.Pre
 
 abbrev pub μ-try-statement : Measures 2 try-statement-kinds.ps ℕ
-μ-try-statement κs a = 16 * (a .1 .1 .1 .1 .0 + (length (a .0 .now) - a .1 .1 .1 .0)) + 6
+μ-try-statement κs a = 16 * (a .1 .1 .1 .1 .1 .0 + (length (a .0 .now) - a .1 .1 .1 .0)) + 7
 
 abbrev pub try-statement-at : ℕ → In 2 try-statement-kinds.ps
 try-statement-at t = and 2 try-statement-kinds.ps (is 2 try-statement-kinds.ps μ-try-statement t) try-statement-reads.Pre
@@ -183,7 +172,7 @@ abbrev pub try-statement-below : ℕ → In 2 try-statement-kinds.ps
 try-statement-below t = and 2 try-statement-kinds.ps (falls 2 try-statement-kinds.ps _<_ μ-try-statement t) try-statement-reads.Pre
 
 abbrev pub μ-while-statement : Measures 2 while-statement-kinds.ps ℕ
-μ-while-statement κs a = 16 * (a .1 .1 .1 .1 .0 + (length (a .0 .now) - a .1 .1 .1 .0)) + 6
+μ-while-statement κs a = 16 * (a .1 .1 .1 .1 .1 .0 + (length (a .0 .now) - a .1 .1 .1 .0)) + 6
 
 abbrev pub while-statement-at : ℕ → In 2 while-statement-kinds.ps
 while-statement-at t = and 2 while-statement-kinds.ps (is 2 while-statement-kinds.ps μ-while-statement t) while-statement-reads.Pre

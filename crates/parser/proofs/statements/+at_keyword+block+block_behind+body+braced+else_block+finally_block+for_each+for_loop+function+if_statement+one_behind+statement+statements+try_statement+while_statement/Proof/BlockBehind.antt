@@ -4,6 +4,7 @@ use Prim.Native.Nat.{ℕ}
 use native.Mathlib.Omega.{arith}
 use Rattle.grammar.specs.Expressions.{expression}
 use Rattle.grammar.specs.Statements.{statement, block}
+use Rattle.words.specs.Modes.{by}
 use Rattle.parser.proofs.Answers.{taken, TakenOf, bounded-tree, bounded-told}
 use Rattle.parser.proofs.Parts.{ready-lent, in-part, back-read, back-refused, back-same, part-length}
 use Rattle.parser.proofs.Moves.{falls, le-refl}
@@ -11,8 +12,8 @@ use borrow.Author.Needs.{needs}
 use Rattle.parser.proofs.statements.block_behind.Reads as block-behind-reads
 use Rattle.parser.proofs.statements.block.Reads as block-reads
 use Rattle.rows.proofs.end.Reads as end-reads
-use Rattle.parser.proofs.statements.+at_keyword+block+block_behind+body+braced+else_block+finally_block+for_each+for_loop+function+if_statement+one_behind+open_body+statement+statements+try_statement+while_statement.Lts-block_behind as lts
-use Rattle.parser.proofs.statements.+at_keyword+block+block_behind+body+braced+else_block+finally_block+for_each+for_loop+function+if_statement+one_behind+open_body+statement+statements+try_statement+while_statement.Proof.Measures.{block-behind-at, block-below}
+use Rattle.parser.proofs.statements.+at_keyword+block+block_behind+body+braced+else_block+finally_block+for_each+for_loop+function+if_statement+one_behind+statement+statements+try_statement+while_statement.Lts-block_behind as lts
+use Rattle.parser.proofs.statements.+at_keyword+block+block_behind+body+braced+else_block+finally_block+for_each+for_loop+function+if_statement+one_behind+statement+statements+try_statement+while_statement.Proof.Measures.{block-behind-at, block-below}
 
 module _ (t : ℕ) where
   abbrev cs : lts.Claims
@@ -55,16 +56,14 @@ module _ (t : ℕ) where
   same-length c = back-same (c .before .before .before .before .before .before .end .result) (c .before .before .before .before .before .before .before .before .before .args .pool .now) (c .before .before .before .before .block .last .1 .0) (c .before .before .before .before .block .kept .1 .0)
 
   pub returns : lts.Need-returns cs (block-behind-at t) block-behind-reads.Post
-  returns c = (bounded-told (c .enum-told .given .1), λ from slots zs left s. back-refused (in-part (block (c .before .before .before .before .before .before .before .before .before .args .tokens .now) (expression (c .before .before .before .before .before .before .before .before .before .args .tokens .now) (c .before .before .before .before .before .before .before .before .before .args .less)) (statement (c .before .before .before .before .before .before .before .before .before .args .tokens .now) (c .before .before .before .before .before .before .before .before .before .args .less)) (c .before .before .before .before .before .before .before .before .before .args .c)) s (rw (c .before .before .before .before .before .before .end .ensures) at (c .before .before .before .before .block .ensures))) (c .enum-told .given .1))
+  returns c = (bounded-told (c .enum-told .given .1), λ from slots zs left s. back-refused (in-part (block (by (c .before .before .before .before .before .before .before .before .before .args .mode)) (c .before .before .before .before .before .before .before .before .before .args .tokens .now) (expression (by (c .before .before .before .before .before .before .before .before .before .args .mode)) (c .before .before .before .before .before .before .before .before .before .args .tokens .now) (c .before .before .before .before .before .before .before .before .before .args .less)) (statement (by (c .before .before .before .before .before .before .before .before .before .args .mode)) (c .before .before .before .before .before .before .before .before .before .args .tokens .now) (c .before .before .before .before .before .before .before .before .before .args .less)) (c .before .before .before .before .before .before .before .before .before .args .c)) s (rw (c .before .before .before .before .before .before .end .ensures) at (c .before .before .before .before .block .ensures))) (c .enum-told .given .1))
 
-  pub add-t13 : lts.Need-add-t13 cs (block-behind-at t) block-behind-reads.Post
-  add-t13 c = omega (arith, read-1 (c .before) .stands .front .fit, part-length (c .before .before .before .before .before .before .before .before .before .before .args .rows) (c .before .before .before .before .before .before .before .before .before .before .args .pool .now), c .before .before .before .before .before .before .before .before .before .before .pre .1 .1, c .before .before .before .before .before .before .before .before .before .before .pre .1 .0 .fits)
+  pub add-t14 : lts.Need-add-t14 cs (block-behind-at t) block-behind-reads.Post
+  add-t14 c = omega (arith, read-1 (c .before) .stands .front .fit, part-length (c .before .before .before .before .before .before .before .before .before .before .args .rows) (c .before .before .before .before .before .before .before .before .before .before .args .pool .now), c .before .before .before .before .before .before .before .before .before .before .pre .1 .1, c .before .before .before .before .before .before .before .before .before .before .pre .1 .0 .fits)
 
   pub same-length-2 : lts.Need-same-length-2 cs (block-behind-at t) block-behind-reads.Post
   same-length-2 c = back-same (c .before .before .before .before .before .before .before .end .result) (c .before .before .before .before .before .before .before .before .before .before .args .pool .now) (c .before .before .before .before .before .block .last .1 .0) (c .before .before .before .before .before .block .kept .1 .0)
 
   pub returns-2 : lts.Need-returns-2 cs (block-behind-at t) block-behind-reads.Post
-  returns-2 c = (
-    bounded-tree (omega (arith, read-1 (c .before) .stands .front .fit, part-length (c .before .before .before .before .before .before .before .before .before .before .args .rows) (c .before .before .before .before .before .before .before .before .before .before .args .pool .now), c .before .before .before .before .before .before .before .before .before .before .pre .1 .1)) (read-1 (c .before) .stands .on) (read-1 (c .before) .stands .within),
-    λ from slots zs left s. rw (c .before .before .before .before .before .before .before .end .ensures) (back-read s (in-part (block (c .before .before .before .before .before .before .before .before .before .before .args .tokens .now) (expression (c .before .before .before .before .before .before .before .before .before .before .args .tokens .now) (c .before .before .before .before .before .before .before .before .before .before .args .less)) (statement (c .before .before .before .before .before .before .before .before .before .before .args .tokens .now) (c .before .before .before .before .before .before .before .before .before .before .args .less)) (c .before .before .before .before .before .before .before .before .before .before .args .c)) s (rw (c .before .before .before .before .before .before .before .end .ensures) at (c .before .before .before .before .before .block .ensures))) (c .before .r .given .1)),
-  )
+  returns-2 c = (bounded-tree (omega (arith, read-1 (c .before) .stands .front .fit, part-length (c .before .before .before .before .before .before .before .before .before .before .args .rows) (c .before .before .before .before .before .before .before .before .before .before .args .pool .now), c .before .before .before .before .before .before .before .before .before .before .pre .1 .1)) (read-1 (c .before) .stands .on) (read-1 (c .before) .stands .within),
+      λ from slots zs left s. rw (c .before .before .before .before .before .before .before .end .ensures) (back-read s (in-part (block (by (c .before .before .before .before .before .before .before .before .before .before .args .mode)) (c .before .before .before .before .before .before .before .before .before .before .args .tokens .now) (expression (by (c .before .before .before .before .before .before .before .before .before .before .args .mode)) (c .before .before .before .before .before .before .before .before .before .before .args .tokens .now) (c .before .before .before .before .before .before .before .before .before .before .args .less)) (statement (by (c .before .before .before .before .before .before .before .before .before .before .args .mode)) (c .before .before .before .before .before .before .before .before .before .before .args .tokens .now) (c .before .before .before .before .before .before .before .before .before .before .args .less)) (c .before .before .before .before .before .before .before .before .before .before .args .c)) s (rw (c .before .before .before .before .before .before .before .end .ensures) at (c .before .before .before .before .before .block .ensures))) (c .before .r .given .1)))

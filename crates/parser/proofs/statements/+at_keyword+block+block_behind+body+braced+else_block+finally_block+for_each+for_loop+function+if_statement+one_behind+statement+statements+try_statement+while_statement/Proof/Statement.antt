@@ -21,8 +21,8 @@ use Rattle.parser.proofs.expressions.around.Reads as around-reads
 use Rattle.parser.proofs.statements.at_keyword.Reads as at-keyword-reads
 use Rattle.words.proofs.current.Reads as current-reads
 use Rattle.parser.proofs.statements.statement.Reads as statement-reads
-use Rattle.parser.proofs.statements.+at_keyword+block+block_behind+body+braced+else_block+finally_block+for_each+for_loop+function+if_statement+one_behind+open_body+statement+statements+try_statement+while_statement.Lts-statement as lts
-use Rattle.parser.proofs.statements.+at_keyword+block+block_behind+body+braced+else_block+finally_block+for_each+for_loop+function+if_statement+one_behind+open_body+statement+statements+try_statement+while_statement.Proof.Measures.{statement-at, at-keyword-below}
+use Rattle.parser.proofs.statements.+at_keyword+block+block_behind+body+braced+else_block+finally_block+for_each+for_loop+function+if_statement+one_behind+statement+statements+try_statement+while_statement.Lts-statement as lts
+use Rattle.parser.proofs.statements.+at_keyword+block+block_behind+body+braced+else_block+finally_block+for_each+for_loop+function+if_statement+one_behind+statement+statements+try_statement+while_statement.Proof.Measures.{statement-at, at-keyword-below}
 
 module _ (t : ℕ) where
   abbrev cs : lts.Claims
@@ -69,4 +69,4 @@ module _ (t : ℕ) where
   unfolding statement level is codes
   returns-4 c =
       let more : c .before .before .before .before .before .before .before .before .before .args .allow ≡ suc (c .before .before .before .before .before .before .before .before .before .args .allow - 1) = omega (arith, c .before .before .before .before .before .before .if1 .left) in rw more (by-eq (choose-false _ _ (not-true _ (rw (word-of (c .before .before .before .before .before .before .before .before .before .pre .1) (c .before .before .before .before .before .current .ensures)) (token-arm (λ w. not (eqb w Empty)) (but (1 ∷ 9 ∷ []) 11) (c .before .before .before .before .before .current .result) (c .before .before .before .before .match .keys3) refl))))
-      (as-list (by-expression _ _ _ (word-of (c .before .before .before .before .before .before .before .before .before .pre .1) (c .before .before .before .before .before .current .ensures)) (token-arm plain (but (1 ∷ 9 ∷ []) 11) (c .before .before .before .before .before .current .result) (c .before .before .before .before .match .keys3) refl) (c .before .before .around .ensures))))
+      (as-list (by-expression _ _ _ _ (word-of (c .before .before .before .before .before .before .before .before .before .pre .1) (c .before .before .before .before .before .current .ensures)) (token-arm plain (but (1 ∷ 9 ∷ []) 11) (c .before .before .before .before .before .current .result) (c .before .before .before .before .match .keys3) refl) (c .before .before .around .ensures))))

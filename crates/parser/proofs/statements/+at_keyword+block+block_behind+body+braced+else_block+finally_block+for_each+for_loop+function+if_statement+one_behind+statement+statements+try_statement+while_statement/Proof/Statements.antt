@@ -12,6 +12,8 @@ use Rattle.grammar.specs.Expressions.{expression}
 use Rattle.grammar.specs.Statements.{statement, statements}
 use Rattle.tokens.specs.Tokens.{word}
 use Rattle.tokens.specs.declared.Token.{Token}
+use Rattle.grammar.specs.Rules.{Rules}
+use Rattle.words.specs.Modes.{by}
 use Rattle.parser.specs.Meets.{Stands, many}
 use Rattle.parser.proofs.Answers.{bounds, bounded-tree, bounded-told, taken, pass, by-eq, choose-true, choose-false, then-read}
 use Rattle.parser.proofs.Ends.{begins, passes}
@@ -25,23 +27,23 @@ use Rattle.words.proofs.iterate.Reads as iterate-reads
 use Rattle.rows.proofs.link.Reads as link-reads
 use Rattle.parser.proofs.statements.one_behind.Reads as one-behind-reads
 use Rattle.parser.proofs.statements.statements.Reads as statements-reads
-use Rattle.parser.proofs.statements.+at_keyword+block+block_behind+body+braced+else_block+finally_block+for_each+for_loop+function+if_statement+one_behind+open_body+statement+statements+try_statement+while_statement.Lts-statements as lts
-use Rattle.parser.proofs.statements.+at_keyword+block+block_behind+body+braced+else_block+finally_block+for_each+for_loop+function+if_statement+one_behind+open_body+statement+statements+try_statement+while_statement.Proof.Measures.{statements-at, one-behind-below}
+use Rattle.parser.proofs.statements.+at_keyword+block+block_behind+body+braced+else_block+finally_block+for_each+for_loop+function+if_statement+one_behind+statement+statements+try_statement+while_statement.Lts-statements as lts
+use Rattle.parser.proofs.statements.+at_keyword+block+block_behind+body+braced+else_block+finally_block+for_each+for_loop+function+if_statement+one_behind+statement+statements+try_statement+while_statement.Proof.Measures.{statements-at, one-behind-below}
 
 -- What holds at each turn: the numbers fit, and from any list in the first rows the definition's loop has come as far.
-pub record Inv (ts pool₀ : List ℕ) (first : ℕ) (close : Token) (allow k₀ h₀ : ℕ) (d₀ : ℕ) (pool : List ℕ) (k h : ℕ) (d : ℕ) : Type 0 where
+pub record Inv (rules : Rules) (ts pool₀ : List ℕ) (first : ℕ) (close : Token) (allow k₀ h₀ : ℕ) (d₀ : ℕ) (pool : List ℕ) (k h : ℕ) (d : ℕ) : Type 0 where
   pub same : length pool ≡ length pool₀
   pub fit : width * k ≤ length pool
   pub on : d₀ ≤ d
   pub within : d < length ts
   pub state : (from : ℕ) (us : Trees) (zs : List ℕ) (left : ℕ) → Stands ts from (us ∷ []) first k₀ left zs pool₀ d₀ → h₀ ≡ head-ref us first
-      → Turning many (statements ts (expression ts allow) (statement ts allow) (word close)) ts from us d₀ left first k h zs pool d
+      → Turning many (statements rules ts (expression rules ts allow) (statement rules ts allow) (word close)) ts from us d₀ left first k h zs pool d
 
 abbrev pub Inv-loop : lts.InvT-loop
-Inv-loop tokens pool₀ first rows head c close allow k₀ h₀ d₀ pool k h d = Inv tokens pool₀ first close allow k₀ h₀ d₀ pool k h d
+Inv-loop tokens pool₀ first rows head c close mode allow k₀ h₀ d₀ pool k h d = Inv (by mode) tokens pool₀ first close allow k₀ h₀ d₀ pool k h d
 
 abbrev pub μ-loop : lts.MeasureT-loop
-μ-loop tokens pool₀ first rows head c close allow k₀ h₀ d₀ pool k h d = length tokens - d
+μ-loop tokens pool₀ first rows head c close mode allow k₀ h₀ d₀ pool k h d = length tokens - d
 
 module _ (t : ℕ) where
   abbrev cs : lts.Claims
@@ -72,7 +74,7 @@ module _ (t : ℕ) where
         on = le-trans (c .before .before .before .before .before .loop .inv .on) (on-step _ _ (c .iterate .ensures));
         within = within-step _ _ (c .iterate .ensures) (c .before .before .before .before .before .loop .inv .within);
         state = λ from us zs left s e. let w = c .before .before .before .before .before .loop .inv .state from us zs left s e in
-            turns-on w (w .value) (w .left) (choose-false _ _ (sym (c .before .before .before .before .current-is .ensures) ∙ not-true _ (c .before .before .before .if1 .taken)) ∙ choose-true _ _ (sym (c .before .before .current-symbol-is .ensures) ∙ c .before .if2 .taken) ∙ rw (← (c .iterate .ensures))) (omega (arith, moves (c .before .before .before .before .before .before .before .before .pre .1 .0 .sound) (c .before .before .before .before .before .loop .inv .within) (is-not-end _ _ SSemiColon (sym (c .before .before .current-symbol-is .ensures) ∙ c .before .if2 .taken) refl), c .iterate .ensures)) (w .head) (stands-step _ _ (c .iterate .ensures) (w .stands));
+        turns-on w (w .value) (w .left) (choose-false _ _ (sym (c .before .before .before .before .current-is .ensures) ∙ not-true _ (c .before .before .before .if1 .taken)) ∙ choose-true _ _ (sym (c .before .before .current-symbol-is .ensures) ∙ c .before .if2 .taken) ∙ rw (← (c .iterate .ensures))) (omega (arith, moves (c .before .before .before .before .before .before .before .before .pre .1 .0 .sound) (c .before .before .before .before .before .loop .inv .within) (is-not-end _ _ SSemiColon (sym (c .before .before .current-symbol-is .ensures) ∙ c .before .if2 .taken) refl), c .iterate .ensures)) (w .head) (stands-step _ _ (c .iterate .ensures) (w .stands))
       }
 
   pub one-behind-requires : lts.Need-one-behind-requires cs (statements-at t) statements-reads.Post Inv-loop μ-loop
@@ -114,8 +116,8 @@ module _ (t : ℕ) where
         on = le-trans (c .before .before .before .before .before .before .before .before .before .before .before .before .before .before .before .before .before .loop .inv .on) (le-trans (b .on) (on-step _ _ (c .iterate2 .ensures)));
         within = within-step _ _ (c .iterate2 .ensures) (b .within);
         state = λ from us zs left s e. let w = c .before .before .before .before .before .before .before .before .before .before .before .before .before .before .before .before .before .loop .inv .state from us zs left s e in let q = taken (c .before .before .before .before .before .before .before .before .before .before .before .one-behind .ensures .1 .1 _ _ _ _ (w .stands)) (c .before .before .before .before .before .before .before .r .given .1) in
-            rw (c .before .first-of .ensures, c .before .before .before .before .link .ensures)
-            (lengthens w _ (q .stands) (q .head) (choose-false _ _ (sym (c .before .before .before .before .before .before .before .before .before .before .before .before .before .before .before .before .current-is .ensures) ∙ not-true _ (c .before .before .before .before .before .before .before .before .before .before .before .before .before .before .before .if1 .taken)) ∙ choose-false _ _ (sym (c .before .before .before .before .before .before .before .before .before .before .before .before .before .before .current-symbol-is .ensures) ∙ c .before .before .before .before .before .before .before .before .before .before .before .before .before .if2 .left) ∙ then-read _ (q .eq) ∙ rw (← (c .iterate2 .ensures))) (omega (arith, passes (c .before .before .before .before .before .before .before .before .before .before .before .before .before .before .before .before .before .before .before .before .pre .1 .0 .sound) (b .on) (b .within) (begins (c .before .before .before .before .before .before .before .before .before .before .before .one-behind .ensures .0) (c .before .before .before .before .before .before .before .r .given .1)), c .iterate2 .ensures)) (on-step _ _ (c .iterate2 .ensures)) (within-step _ _ (c .iterate2 .ensures) (b .within)));
+        rw (c .before .first-of .ensures, c .before .before .before .before .link .ensures)
+        (lengthens w _ (q .stands) (q .head) (choose-false _ _ (sym (c .before .before .before .before .before .before .before .before .before .before .before .before .before .before .before .before .current-is .ensures) ∙ not-true _ (c .before .before .before .before .before .before .before .before .before .before .before .before .before .before .before .if1 .taken)) ∙ choose-false _ _ (sym (c .before .before .before .before .before .before .before .before .before .before .before .before .before .before .current-symbol-is .ensures) ∙ c .before .before .before .before .before .before .before .before .before .before .before .before .before .if2 .left) ∙ then-read _ (q .eq) ∙ rw (← (c .iterate2 .ensures))) (omega (arith, passes (c .before .before .before .before .before .before .before .before .before .before .before .before .before .before .before .before .before .before .before .before .pre .1 .0 .sound) (b .on) (b .within) (begins (c .before .before .before .before .before .before .before .before .before .before .before .one-behind .ensures .0) (c .before .before .before .before .before .before .before .r .given .1)), c .iterate2 .ensures)) (on-step _ _ (c .iterate2 .ensures)) (within-step _ _ (c .iterate2 .ensures) (b .within)))
       }
 
   pub same-length-2 : lts.Need-same-length-2 cs (statements-at t) statements-reads.Post Inv-loop μ-loop
@@ -123,8 +125,6 @@ module _ (t : ℕ) where
 
   pub returns-2 : lts.Need-returns-2 cs (statements-at t) statements-reads.Post Inv-loop μ-loop
   unfolding statements
-  returns-2 c = (
-    bounded-tree (omega (arith, c .before .before .loop .inv .fit, c .before .before .loop .inv .same)) (c .before .before .loop .inv .on) (c .before .before .loop .inv .within),
-    λ from us zs left s e. let w = c .before .before .loop .inv .state from us zs left s e in
-        stops w _ refl (choose-true _ _ (sym (c .before .current-is .ensures) ∙ not-false _ (c .if1 .left))),
-  )
+  returns-2 c =
+      (bounded-tree (omega (arith, c .before .before .loop .inv .fit, c .before .before .loop .inv .same)) (c .before .before .loop .inv .on) (c .before .before .loop .inv .within), λ from us zs left s e. let w = c .before .before .loop .inv .state from us zs left s e in
+      stops w _ refl (choose-true _ _ (sym (c .before .current-is .ensures) ∙ not-false _ (c .if1 .left))))

@@ -1,0 +1,41 @@
+// The mode of reading, and the signs that it asks for.
+use crate::places::Cursor;
+use crate::places::next_symbol_is;
+use tokens::Symbol;
+ghost use mathlib.Core.Path.{_≡_};
+ghost use Rattle.tokens.specs.Tokens.{word};
+ghost use Rattle.tokens.specs.declared.Token.the-variants as token;
+ghost use Rattle.words.specs.Modes.{chosen, comes};
+
+// The original's rules; or strict ones, by which a call with arguments must be closed, and the bodies of while, foreach and
+// finally opened, by the right sign.
+pub enum Mode {
+    Old,
+    Strict,
+}
+
+// When a sign must come next: always, or by the mode.
+pub enum Due {
+    Always,
+    By(Mode),
+}
+
+// The mode by whether it is strict.
+pub fn mode_of(strict: bool) -> Mode
+    ensures { λ r. ⌜ r ≡ chosen strict ⌝ }
+{
+    if strict { Mode::Strict } else { Mode::Old }
+}
+
+// Whether a sign comes next, where it must.
+pub fn comes(tokens: &[u16], c: Cursor, s: Symbol, due: Due) -> bool
+    ensures { λ r. ⌜ r ≡ comes due (now (tokens .entry)) c (word (token.Operator s)) ⌝ }
+{
+    match due {
+        Due::Always => next_symbol_is(tokens, c, s),
+        Due::By(mode) => match mode {
+            Mode::Old => true,
+            Mode::Strict => next_symbol_is(tokens, c, s),
+        },
+    }
+}
