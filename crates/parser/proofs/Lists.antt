@@ -31,6 +31,12 @@ unfolding _>>_ _>>=_
 checked-then met x f = refl
 checked-then (failed n p) x f = refl
 
+-- One reader after another, either way.
+pub then-assoc : {A B C : Type 0} (x : Parsed A) (f : A × ℕ × ℕ → Parsed B) (g : B × ℕ × ℕ → Parsed C) → (x >>= λ y. f y >>= g) ≡ ((x >>= f) >>= g)
+unfolding _>>=_
+then-assoc (refused n p) f g = refl
+then-assoc (read a at left) f g = refl
+
 -- Whether a word is none of the keywords that statements begin with.
 abbrev pub plain : ℕ → Bool
 plain = none (KBreak ∷ KContinue ∷ KVar ∷ KConst ∷ KIf ∷ KAssert ∷ KWhile ∷ KReturn ∷ KFunc ∷ KFor ∷ KThrow ∷ KTry ∷ KForEach ∷ [])

@@ -27,6 +27,7 @@ use Rattle.parser.specs.declared.Entry.{Entry}
 use Rattle.parser.specs.declared.Entry.the-variants as what
 use Rattle.answer.specs.Answer.{ended, ended-pool, checks, start-of}
 use Rattle.parser.specs.Entries.{Entered, reads, enters, script}
+use Rattle.parser.proofs.Lists.{then-assoc}
 
 -- A checked array is sound.
 pub sound : {ts : List ℕ} → array-good ts ≡ met → Sound ts
@@ -186,12 +187,6 @@ unfolding reads
 reads-alone what.Expression rules ts at room us b left e = one-alone _ us b left e
 reads-alone what.Statement rules ts at room us b left e = statement-alone rules ts _ at room us b left e
 reads-alone what.Script rules ts at room us b left e = one-alone _ us b left e
-
--- One reader after another, either way.
-then-assoc : {A B C : Type 0} (x : Parsed A) (f : A × ℕ × ℕ → Parsed B) (g : B × ℕ × ℕ → Parsed C) → (x >>= λ y. f y >>= g) ≡ ((x >>= f) >>= g)
-unfolding _>>=_
-then-assoc (refused n p) f g = refl
-then-assoc (read a at left) f g = refl
 
 -- A good array has a place 0.
 at-zero : {A : Type 0} (ts : List ℕ) (x y : Parsed A) → x ≡ y → (array-good ts >> x) ≡ (array-good ts >> (need (ltb 0 (length ts)) BadStart 0 >> y))

@@ -7,9 +7,9 @@ use lib.ListN.{length}
 use lib.Dec.{eqb}
 use Rattle.grammar.specs.Words.{EOF, SLBrace, KIf, KWhile, KFor, KConst, KVar, KFunc, KTry, KThrow, KForEach, KAssert, Zero, tok, step, next-is}
 use Rattle.grammar.specs.Tree.{Tree, node, Trees, nil, _▸_, size, head-ref, width}
-use Rattle.grammar.specs.Parsed.{Reader, _>>=_, _>>_, need, build}
+use Rattle.grammar.specs.Parsed.{read, Reader, _>>=_, _>>_, need, build, turns}
 use Rattle.grammar.specs.Rules.{Rules}
-use Rattle.grammar.specs.Expressions.{Rec, pair}
+use Rattle.grammar.specs.Expressions.{Rec, entries, list-expr, pair}
 use Rattle.words.specs.declared.modes.Due.{Due}
 use Rattle.words.specs.Modes.{comes}
 use Rattle.answer.specs.declared.Read.{Read}
@@ -53,16 +53,30 @@ around rec kind mark place at room = do
   (t, at, room) ← rec Zero at room
   build (node kind mark place (t ▸ nil) nil nil nil) at room
 
--- A row whose closing sign comes next, where it is due.
-unfoldable pub closed : (due : Due) (ts : List ℕ) (close number : ℕ) → Tree → Reader Tree
-closed due ts close number t at room = do
-  need (comes due ts at close) number at
+-- A row whose closing sign comes next.
+unfoldable pub closed : (ts : List ℕ) (close number : ℕ) → Tree → Reader Tree
+closed ts close number t at room = do
+  need (next-is ts at close) number at
   build t (step ts at) room
 
 -- An expression above an order, or a pair of a hash.
 unfoldable pub item : (rules : Rules) (ts : List ℕ) (rec : Rec) (order : ℕ) → Bool → Reader Tree
 item rules ts rec order true = pair rules ts rec
 item rules ts rec order false = rec order
+
+-- A list of expressions, or the pairs of a hash behind its sign.
+unfoldable pub items : (rules : Rules) (ts : List ℕ) (rec : Rec) → Bool → Reader Trees
+items rules ts rec true at room = do
+  (t, at, room) ← pair rules ts rec (step ts at) room
+  entries rules ts rec (pair rules ts rec) turns (t ▸ nil) at room
+items rules ts rec false at room = list-expr rules ts rec at room
+
+-- The same and its closing sign, which comes next where it is due.
+unfoldable pub closed-list : (due : Due) (rules : Rules) (ts : List ℕ) (rec : Rec) (paired : Bool) (close number : ℕ) → Reader Trees
+closed-list due rules ts rec paired close number at room = do
+  (list, at, room) ← items rules ts rec paired at room
+  need (comes due ts at close) number at
+  read list (step ts at) room
 
 -- A sign that comes next, and the expression after it.
 unfoldable pub behind-sign : (ts : List ℕ) (rec : Rec) (sign number : ℕ) → Reader Tree

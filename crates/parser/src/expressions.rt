@@ -3,6 +3,7 @@ use super::dots::dot_expression;
 use super::names::*;
 use super::part::closed;
 use super::part::first_of;
+use super::part::is_empty;
 use super::part::leaf;
 use super::part::passed;
 use super::part::put_row;
@@ -15,16 +16,17 @@ use words::Cursor;
 use words::Due;
 use words::Mode;
 ghost use mathlib.Core.Path.{_≡_};
-ghost use mathlib.Core.Bool.{true};
+ghost use mathlib.Core.Bool.{true, false};
 ghost use Prim.Native.Nat.{_*_, _≤_, _<_};
 ghost use lib.ListN.{length};
-ghost use Rattle.grammar.specs.Words.{tok, operates};
+ghost use Rattle.grammar.specs.Words.{SRparen, tok, operates};
 ghost use Rattle.grammar.specs.Tree.{width};
-ghost use Rattle.grammar.specs.Parsed.{turns};
+ghost use Rattle.grammar.specs.Parsed.{turns, WrongSign};
 ghost use Rattle.grammar.specs.Expressions as spec;
 ghost use Rattle.tokens.specs.Tokens.{word};
 ghost use Rattle.tokens.specs.declared.Token.the-variants as token;
 ghost use Rattle.rows.specs.Rows.{bit};
+ghost use Rattle.words.specs.declared.modes.Due.the-variants as due;
 ghost use Rattle.words.specs.Modes.{by};
 ghost use Rattle.parser.specs.Meets.{Ready, one, many};
 ghost use Rattle.parser.specs.Contracts.{Fresh, Behind, Follows, Extends};
@@ -287,34 +289,81 @@ fn entries(
     Read::Tree(k, h, d)
 }
 
-// parse_list_expr
-pub fn list_expr(
+// The first item of a list: an expression, or a pair of a hash. It has one caller, and is compiled into it.
+fn first_item(
     tokens: &[u16],
     pool: &mut [u32],
     first: usize,
     c: Cursor,
+    paired: bool,
     mode: Mode,
     less: usize,
 ) -> Read
     requires { ⌜ Ready (now tokens) (now pool) first c ⌝ }
-    ensures { λ r. ⌜ Fresh many (spec.list-expr (by mode) (now (tokens .entry)) (spec.expression (by mode) (now (tokens .entry)) less)) (now (tokens .entry)) c first r (now (pool .entry)) (now (pool .exit)) ⌝ }
+    ensures { λ r. ⌜ Fresh one (contract.item (by mode) (now (tokens .entry)) (spec.expression (by mode) (now (tokens .entry)) less) 0 paired) (now (tokens .entry)) c first r (now (pool .entry)) (now (pool .exit)) ⌝ }
 {
-    if words::next_symbol_is(tokens, c, Symbol::SRparen) {
+    if paired {
+        return pair(tokens, pool, first, c, mode, less);
+    }
+    expression(tokens, pool, first, c, 0, mode, less)
+}
+
+// parse_list_expr; or the pairs of a hash, behind its sign.
+fn list_expr(
+    tokens: &[u16],
+    pool: &mut [u32],
+    first: usize,
+    c: Cursor,
+    paired: bool,
+    mode: Mode,
+    less: usize,
+) -> Read
+    requires { ⌜ Ready (now tokens) (now pool) first c ⌝ }
+    ensures { λ r. ⌜ Fresh many (contract.items (by mode) (now (tokens .entry)) (spec.expression (by mode) (now (tokens .entry)) less) paired) (now (tokens .entry)) c first r (now (pool .entry)) (now (pool .exit)) ⌝ }
+{
+    if is_empty(tokens, c, paired) {
         return Read::Tree(0, 0, c);
     }
-    let r = expression(
+    let r = first_item(
         tokens,
         pool,
         first,
         words::iterate(tokens, c),
-        0,
+        paired,
         mode,
         less,
     );
     let Read::Tree(k, h, d) = r else {
         return r;
     };
-    entries(tokens, pool, first, k, h, d, false, mode, less)
+    entries(tokens, pool, first, k, h, d, paired, mode, less)
+}
+
+// A list and its closing sign, which comes next where it is due, or else the refusal `number`.
+pub fn closed_list(
+    tokens: &[u16],
+    pool: &mut [u32],
+    first: usize,
+    c: Cursor,
+    paired: bool,
+    close: Symbol,
+    due: Due,
+    number: u32,
+    mode: Mode,
+    less: usize,
+) -> Read
+    requires { ⌜ Ready (now tokens) (now pool) first c ⌝ }
+    ensures { λ r. ⌜ Fresh many (contract.closed-list due (by mode) (now (tokens .entry)) (spec.expression (by mode) (now (tokens .entry)) less) paired (word (token.Operator close)) number) (now (tokens .entry)) c first r (now (pool .entry)) (now (pool .exit)) ⌝ }
+{
+    let r = list_expr(tokens, pool, first, c, paired, mode, less);
+    let Read::Tree(k, h, d) = r else {
+        return r;
+    };
+    if !words::comes(tokens, d, close, due) {
+        return Read::Refused(number, d);
+    }
+    let e = words::iterate(tokens, d);
+    Read::Tree(k, h, e)
 }
 
 // parse_pair
@@ -356,28 +405,22 @@ fn hash(tokens: &[u16], pool: &mut [u32], first: usize, c: Cursor, mode: Mode, l
     if words::next_symbol_is(tokens, c, Symbol::SRBrace) {
         return put_row(pool, first, 0, d, HASH, 0, c, 0, 0, 0, 0);
     }
-    let r = pair(tokens, pool, first, d, mode, less);
-    let Read::Tree(k, h, e) = r else {
-        return r;
-    };
-    let q = entries(tokens, pool, first, k, h, e, true, mode, less);
-    let Read::Tree(m, g, f) = q else {
-        return q;
-    };
-    closed(
+    let r = closed_list(
         tokens,
         pool,
         first,
-        m,
-        f,
+        c,
+        true,
         Symbol::SRBrace,
         Due::Always,
         HASH_NOT_TERMINATED,
-        HASH,
-        c,
-        g,
-        0,
-    )
+        mode,
+        less,
+    );
+    let Read::Tree(k, h, e) = r else {
+        return r;
+    };
+    put_row(pool, first, k, e, HASH, 0, c, h, 0, 0, 0)
 }
 
 // parse_array_expression
@@ -400,24 +443,22 @@ fn array(tokens: &[u16], pool: &mut [u32], first: usize, c: Cursor, mode: Mode, 
             0,
         );
     }
-    let r = list_expr(tokens, pool, first, c, mode, less);
-    let Read::Tree(k, h, d) = r else {
-        return r;
-    };
-    closed(
+    let r = closed_list(
         tokens,
         pool,
         first,
-        k,
-        d,
+        c,
+        false,
         Symbol::SRBox,
         Due::Always,
         ARRAY_NOT_TERMINATED,
-        ARRAY,
-        c,
-        h,
-        0,
-    )
+        mode,
+        less,
+    );
+    let Read::Tree(k, h, d) = r else {
+        return r;
+    };
+    put_row(pool, first, k, d, ARRAY, 0, c, h, 0, 0, 0)
 }
 
 // parse_lambda_exp
@@ -438,14 +479,22 @@ fn lambda(
     if words::next_symbol_is(tokens, c, Symbol::SImpl) {
         return Read::Refused(NO_PARAMETERS, c);
     }
-    let r = list_expr(tokens, pool, first, c, mode, less);
+    let r = closed_list(
+        tokens,
+        pool,
+        first,
+        c,
+        false,
+        Symbol::SImpl,
+        Due::Always,
+        EXPECTED_ARROW,
+        mode,
+        less,
+    );
     let Read::Tree(k, h, d) = r else {
         return r;
     };
-    if !words::next_symbol_is(tokens, d, Symbol::SImpl) {
-        return Read::Refused(EXPECTED_ARROW, d);
-    }
-    let e = words::iterate(tokens, words::iterate(tokens, d));
+    let e = words::iterate(tokens, d);
     let q = behind(tokens, pool, first, k, e, 0, false, mode, less);
     let Read::Tree(m, g, f) = q else {
         return q;
@@ -624,8 +673,8 @@ fn infix_exp(
     )
 }
 
-// A list behind the first `rows` rows of the part.
-fn list_behind(
+// The arguments of a call and their closing sign, which is due by the mode, behind the first `rows` rows of the part.
+fn arguments(
     tokens: &[u16],
     pool: &mut [u32],
     first: usize,
@@ -635,10 +684,21 @@ fn list_behind(
     less: usize,
 ) -> Read
     requires { ⌜ (Ready (now tokens) (now pool) first c) × (width * rows ≤ length (now pool)) ⌝ }
-    ensures { λ r. ⌜ Behind many (spec.list-expr (by mode) (now (tokens .entry)) (spec.expression (by mode) (now (tokens .entry)) less)) (now (tokens .entry)) c first rows r (now (pool .entry)) (now (pool .exit)) ⌝ }
+    ensures { λ r. ⌜ Behind many (contract.closed-list (due.By mode) (by mode) (now (tokens .entry)) (spec.expression (by mode) (now (tokens .entry)) less) false SRparen WrongSign) (now (tokens .entry)) c first rows r (now (pool .entry)) (now (pool .exit)) ⌝ }
 {
     let i = rows::end(rows as u32);
-    let r = list_expr(tokens, &mut pool[i..], first + rows, c, mode, less);
+    let r = closed_list(
+        tokens,
+        &mut pool[i..],
+        first + rows,
+        c,
+        false,
+        Symbol::SRparen,
+        Due::By(mode),
+        WRONG_SIGN,
+        mode,
+        less,
+    );
     let Read::Tree(k, h, d) = r else {
         return r;
     };
@@ -663,24 +723,11 @@ fn call(
         let d = words::iterate(tokens, c);
         return put_row(pool, first, rows, d, CALL, 0, c, head, 0, 0, 0);
     }
-    let r = list_behind(tokens, pool, first, rows, c, mode, less);
+    let r = arguments(tokens, pool, first, rows, c, mode, less);
     let Read::Tree(k, h, e) = r else {
         return r;
     };
-    closed(
-        tokens,
-        pool,
-        first,
-        k,
-        e,
-        Symbol::SRparen,
-        Due::By(mode),
-        WRONG_SIGN,
-        CALL,
-        c,
-        head,
-        h,
-    )
+    put_row(pool, first, k, e, CALL, 0, c, head, h, 0, 0)
 }
 
 // parse_index_expression
@@ -718,7 +765,6 @@ fn index(
         k,
         d,
         Symbol::SRBox,
-        Due::Always,
         INVALID_SYNTAX,
         INDEX,
         c,

@@ -4,13 +4,13 @@ use rows::Built;
 use rows::Row;
 use tokens::Symbol;
 use words::Cursor;
-use words::Due;
 ghost use mathlib.Core.Path.{_≡_};
 ghost use Prim.Native.Nat.{ℕ, _+_, _*_, _≤_, _<_};
-ghost use mathlib.Core.Bool.{cond};
+ghost use mathlib.Core.Bool.{cond, not, _&&_};
 ghost use mathlib.Core.List.{List};
 ghost use lib.Dec.{eqb};
 ghost use lib.ListN.{length};
+ghost use Rattle.grammar.specs.Words.{SRparen, next-is};
 ghost use Rattle.grammar.specs.Tree.{width};
 ghost use Rattle.grammar.specs.Tree as tree;
 ghost use Rattle.grammar.specs.Parsed.{build};
@@ -62,7 +62,7 @@ pub fn leaf(pool: &mut [u32], first: usize, c: Cursor, kind: u32, mark: u32) -> 
     put_row(pool, first, 0, c, kind, mark, c, 0, 0, 0, 0)
 }
 
-// A row whose closing sign comes next, where it is due, or else the refusal `number`.
+// A row whose closing sign comes next, or else the refusal `number`.
 pub fn closed(
     tokens: &[u16],
     pool: &mut [u32],
@@ -70,7 +70,6 @@ pub fn closed(
     rows: usize,
     c: Cursor,
     close: Symbol,
-    due: Due,
     number: u32,
     kind: u32,
     place: usize,
@@ -78,9 +77,9 @@ pub fn closed(
     c1: u32,
 ) -> Read
     requires { ⌜ (Ready (now tokens) (now pool) first c) × (place < 65536) ⌝ }
-    ensures { λ r. ⌜ Ends (contract.closed due (now (tokens .entry)) (word (token.Operator close)) number) (now (tokens .entry)) c first rows kind 0 place c0 c1 0 0 r (now (pool .entry)) (now (pool .exit)) ⌝ }
+    ensures { λ r. ⌜ Ends (contract.closed (now (tokens .entry)) (word (token.Operator close)) number) (now (tokens .entry)) c first rows kind 0 place c0 c1 0 0 r (now (pool .entry)) (now (pool .exit)) ⌝ }
 {
-    if words::comes(tokens, c, close, due) {
+    if words::next_symbol_is(tokens, c, close) {
         return put_row(
             pool,
             first,
@@ -96,6 +95,16 @@ pub fn closed(
         );
     }
     Read::Refused(number, c)
+}
+
+// Whether a list of expressions ends before its first; one of pairs doesn't.
+pub fn is_empty(tokens: &[u16], c: Cursor, paired: bool) -> bool
+    ensures { λ r. ⌜ r ≡ not paired && next-is (now (tokens .entry)) c SRparen ⌝ }
+{
+    if paired {
+        return false;
+    }
+    words::next_symbol_is(tokens, c, Symbol::SRparen)
 }
 
 // The reference of a list's first member, once another is behind the first `rows` rows.

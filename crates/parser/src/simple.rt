@@ -9,7 +9,6 @@ use answer::Read;
 use tokens::Symbol;
 use tokens::Token;
 use words::Cursor;
-use words::Due;
 use words::Mode;
 ghost use Prim.Native.Nat.{_*_, _≤_};
 ghost use lib.ListN.{length};
@@ -19,7 +18,6 @@ ghost use Rattle.grammar.specs.Expressions.{expression};
 ghost use Rattle.grammar.specs.Statements as spec;
 ghost use Rattle.tokens.specs.Tokens.{word};
 ghost use Rattle.words.specs.Modes.{by};
-ghost use Rattle.words.specs.declared.modes.Due.the-variants as due;
 ghost use Rattle.parser.specs.Meets.{Ready, one};
 ghost use Rattle.parser.specs.Contracts.{Fresh, Behind};
 ghost use Rattle.parser.specs.Contracts as contract;
@@ -34,7 +32,7 @@ pub fn alone(
     number: u32,
 ) -> Read
     requires { ⌜ Ready (now tokens) (now pool) first c ⌝ }
-    ensures { λ r. ⌜ Fresh one (λ at. contract.closed due.Always (now (tokens .entry)) SSemiColon number (leaf kind 0 at) at) (now (tokens .entry)) c first r (now (pool .entry)) (now (pool .exit)) ⌝ }
+    ensures { λ r. ⌜ Fresh one (λ at. contract.closed (now (tokens .entry)) SSemiColon number (leaf kind 0 at) at) (now (tokens .entry)) c first r (now (pool .entry)) (now (pool .exit)) ⌝ }
 {
     closed(
         tokens,
@@ -43,7 +41,6 @@ pub fn alone(
         0,
         c,
         Symbol::SSemiColon,
-        Due::Always,
         number,
         kind,
         c,

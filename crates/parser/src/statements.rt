@@ -1,7 +1,7 @@
 // The readers of statements and blocks: one cycle, each named after the original's function.
 use super::expressions::around;
+use super::expressions::closed_list;
 use super::expressions::expression;
-use super::expressions::list_expr;
 use super::names::*;
 use super::part::first_of;
 use super::part::put_row;
@@ -259,19 +259,27 @@ fn function(
     if !words::next_symbol_is(tokens, c, Symbol::SLParen) {
         return Read::Refused(INVALID_SYNTAX, c);
     }
-    let r = list_expr(tokens, pool, first, words::iterate(tokens, c), mode, less);
+    let r = closed_list(
+        tokens,
+        pool,
+        first,
+        words::iterate(tokens, c),
+        false,
+        Symbol::SRparen,
+        Due::Always,
+        INVALID_SYNTAX,
+        mode,
+        less,
+    );
     let Read::Tree(k, h, d) = r else {
         return r;
     };
-    let paren = Symbol::SRparen;
-    let q = body(
+    let q = braced(
         tokens,
         pool,
         first,
         k,
         d,
-        paren,
-        INVALID_SYNTAX,
         Due::Always,
         INVALID_SYNTAX,
         mode,

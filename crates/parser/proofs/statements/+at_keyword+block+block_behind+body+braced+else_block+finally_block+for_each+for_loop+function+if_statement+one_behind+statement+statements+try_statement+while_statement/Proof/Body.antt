@@ -45,6 +45,7 @@ module _ (t : ℕ) where
 
   pub returns-3 : lts.Need-returns-3 cs (body-at t) body-reads.Post
   unfolding body
-  returns-3 c =
-      (later refl (on-step _ _ (c .before .before .before .before .before .before .iterate .ensures)) (c .before .before .block-behind .ensures .0),
-      λ from slots zs left s. by-eq (need-met _ _ _ (sym (c .before .before .before .before .before .before .before .before .next-symbol-is .ensures) ∙ not-false _ (c .before .before .before .before .before .before .before .if1 .left))) (rw (← (c .before .before .before .before .before .before .iterate .ensures)) (by-eq (need-met _ _ _ (sym (c .before .before .before .before .before .comes .ensures) ∙ not-false _ (c .before .before .before .before .if2 .left))) (c .before .before .block-behind .ensures .1 _ _ _ _ (stands-step _ _ (c .before .before .before .before .before .before .iterate .ensures) s)))))
+  returns-3 c = (
+    later refl (on-step _ _ (c .before .before .before .before .before .before .iterate .ensures)) (c .before .before .block-behind .ensures .0),
+    λ from slots zs left s. by-eq (need-met _ _ _ (sym (c .before .before .before .before .before .before .before .before .next-symbol-is .ensures) ∙ not-false _ (c .before .before .before .before .before .before .before .if1 .left))) (rw (← (c .before .before .before .before .before .before .iterate .ensures)) (by-eq (need-met _ _ _ (sym (c .before .before .before .before .before .comes .ensures) ∙ not-false _ (c .before .before .before .before .if2 .left))) (c .before .before .block-behind .ensures .1 _ _ _ _ (stands-step _ _ (c .before .before .before .before .before .before .iterate .ensures) s)))),
+  )

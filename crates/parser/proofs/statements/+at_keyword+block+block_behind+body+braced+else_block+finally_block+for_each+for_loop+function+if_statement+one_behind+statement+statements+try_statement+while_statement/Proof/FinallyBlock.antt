@@ -27,9 +27,10 @@ module _ (t : ℕ) where
 
   pub returns : lts.Need-returns cs (finally-block-at t) finally-block-reads.Post
   unfolding finally
-  returns c =
-      (bounded-tree (c .before .before .before .before .pre .1 .1) (omega arith) (c .before .before .before .before .pre .1 .0 .within),
-      λ from slots zs left s. by-eq (choose-false _ _ (sym (c .before .next-keyword-is .ensures) ∙ not-true _ (c .if1 .taken))) (read-nothing s))
+  returns c = (
+    bounded-tree (c .before .before .before .before .pre .1 .1) (omega arith) (c .before .before .before .before .pre .1 .0 .within),
+    λ from slots zs left s. by-eq (choose-false _ _ (sym (c .before .next-keyword-is .ensures) ∙ not-true _ (c .if1 .taken))) (read-nothing s),
+  )
 
   pub iterate-requires : lts.Need-iterate-requires cs (finally-block-at t) finally-block-reads.Post
   iterate-requires c κs = search needs
@@ -42,7 +43,8 @@ module _ (t : ℕ) where
 
   pub returns-2 : lts.Need-returns-2 cs (finally-block-at t) finally-block-reads.Post
   unfolding finally
-  returns-2 c =
-      (later refl (on-step _ _ (c .before .before .before .before .iterate .ensures)) (c .before .before .braced .ensures .0),
-      λ from slots zs left s. by-eq (choose-true _ _ (sym (c .before .before .before .before .before .before .next-keyword-is .ensures) ∙ not-false _ (c .before .before .before .before .before .if1 .left))) (rw (← (c .before .before .before .before .iterate .ensures))
-      (by-eq (sym (braced-then _ _ _ _ (By (c .before .before .before .before .before .before .before .before .before .args .mode)) _ _)) (as-list (c .before .before .braced .ensures .1 _ _ _ _ (stands-step _ _ (c .before .before .before .before .iterate .ensures) s))))))
+  returns-2 c = (
+    later refl (on-step _ _ (c .before .before .before .before .iterate .ensures)) (c .before .before .braced .ensures .0),
+    λ from slots zs left s. by-eq (choose-true _ _ (sym (c .before .before .before .before .before .before .next-keyword-is .ensures) ∙ not-false _ (c .before .before .before .before .before .if1 .left))) (rw (← (c .before .before .before .before .iterate .ensures))
+        (by-eq (sym (braced-then _ _ _ _ (By (c .before .before .before .before .before .before .before .before .before .args .mode)) _ _)) (as-list (c .before .before .braced .ensures .1 _ _ _ _ (stands-step _ _ (c .before .before .before .before .iterate .ensures) s))))),
+  )

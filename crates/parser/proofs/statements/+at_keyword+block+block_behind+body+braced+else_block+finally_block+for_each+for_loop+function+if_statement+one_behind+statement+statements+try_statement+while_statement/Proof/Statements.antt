@@ -74,7 +74,7 @@ module _ (t : ℕ) where
         on = le-trans (c .before .before .before .before .before .loop .inv .on) (on-step _ _ (c .iterate .ensures));
         within = within-step _ _ (c .iterate .ensures) (c .before .before .before .before .before .loop .inv .within);
         state = λ from us zs left s e. let w = c .before .before .before .before .before .loop .inv .state from us zs left s e in
-        turns-on w (w .value) (w .left) (choose-false _ _ (sym (c .before .before .before .before .current-is .ensures) ∙ not-true _ (c .before .before .before .if1 .taken)) ∙ choose-true _ _ (sym (c .before .before .current-symbol-is .ensures) ∙ c .before .if2 .taken) ∙ rw (← (c .iterate .ensures))) (omega (arith, moves (c .before .before .before .before .before .before .before .before .pre .1 .0 .sound) (c .before .before .before .before .before .loop .inv .within) (is-not-end _ _ SSemiColon (sym (c .before .before .current-symbol-is .ensures) ∙ c .before .if2 .taken) refl), c .iterate .ensures)) (w .head) (stands-step _ _ (c .iterate .ensures) (w .stands))
+            turns-on w (w .value) (w .left) (choose-false _ _ (sym (c .before .before .before .before .current-is .ensures) ∙ not-true _ (c .before .before .before .if1 .taken)) ∙ choose-true _ _ (sym (c .before .before .current-symbol-is .ensures) ∙ c .before .if2 .taken) ∙ rw (← (c .iterate .ensures))) (omega (arith, moves (c .before .before .before .before .before .before .before .before .pre .1 .0 .sound) (c .before .before .before .before .before .loop .inv .within) (is-not-end _ _ SSemiColon (sym (c .before .before .current-symbol-is .ensures) ∙ c .before .if2 .taken) refl), c .iterate .ensures)) (w .head) (stands-step _ _ (c .iterate .ensures) (w .stands));
       }
 
   pub one-behind-requires : lts.Need-one-behind-requires cs (statements-at t) statements-reads.Post Inv-loop μ-loop
@@ -116,8 +116,8 @@ module _ (t : ℕ) where
         on = le-trans (c .before .before .before .before .before .before .before .before .before .before .before .before .before .before .before .before .before .loop .inv .on) (le-trans (b .on) (on-step _ _ (c .iterate2 .ensures)));
         within = within-step _ _ (c .iterate2 .ensures) (b .within);
         state = λ from us zs left s e. let w = c .before .before .before .before .before .before .before .before .before .before .before .before .before .before .before .before .before .loop .inv .state from us zs left s e in let q = taken (c .before .before .before .before .before .before .before .before .before .before .before .one-behind .ensures .1 .1 _ _ _ _ (w .stands)) (c .before .before .before .before .before .before .before .r .given .1) in
-        rw (c .before .first-of .ensures, c .before .before .before .before .link .ensures)
-        (lengthens w _ (q .stands) (q .head) (choose-false _ _ (sym (c .before .before .before .before .before .before .before .before .before .before .before .before .before .before .before .before .current-is .ensures) ∙ not-true _ (c .before .before .before .before .before .before .before .before .before .before .before .before .before .before .before .if1 .taken)) ∙ choose-false _ _ (sym (c .before .before .before .before .before .before .before .before .before .before .before .before .before .before .current-symbol-is .ensures) ∙ c .before .before .before .before .before .before .before .before .before .before .before .before .before .if2 .left) ∙ then-read _ (q .eq) ∙ rw (← (c .iterate2 .ensures))) (omega (arith, passes (c .before .before .before .before .before .before .before .before .before .before .before .before .before .before .before .before .before .before .before .before .pre .1 .0 .sound) (b .on) (b .within) (begins (c .before .before .before .before .before .before .before .before .before .before .before .one-behind .ensures .0) (c .before .before .before .before .before .before .before .r .given .1)), c .iterate2 .ensures)) (on-step _ _ (c .iterate2 .ensures)) (within-step _ _ (c .iterate2 .ensures) (b .within)))
+            rw (c .before .first-of .ensures, c .before .before .before .before .link .ensures)
+            (lengthens w _ (q .stands) (q .head) (choose-false _ _ (sym (c .before .before .before .before .before .before .before .before .before .before .before .before .before .before .before .before .current-is .ensures) ∙ not-true _ (c .before .before .before .before .before .before .before .before .before .before .before .before .before .before .before .if1 .taken)) ∙ choose-false _ _ (sym (c .before .before .before .before .before .before .before .before .before .before .before .before .before .before .current-symbol-is .ensures) ∙ c .before .before .before .before .before .before .before .before .before .before .before .before .before .if2 .left) ∙ then-read _ (q .eq) ∙ rw (← (c .iterate2 .ensures))) (omega (arith, passes (c .before .before .before .before .before .before .before .before .before .before .before .before .before .before .before .before .before .before .before .before .pre .1 .0 .sound) (b .on) (b .within) (begins (c .before .before .before .before .before .before .before .before .before .before .before .one-behind .ensures .0) (c .before .before .before .before .before .before .before .r .given .1)), c .iterate2 .ensures)) (on-step _ _ (c .iterate2 .ensures)) (within-step _ _ (c .iterate2 .ensures) (b .within)));
       }
 
   pub same-length-2 : lts.Need-same-length-2 cs (statements-at t) statements-reads.Post Inv-loop μ-loop
@@ -125,6 +125,8 @@ module _ (t : ℕ) where
 
   pub returns-2 : lts.Need-returns-2 cs (statements-at t) statements-reads.Post Inv-loop μ-loop
   unfolding statements
-  returns-2 c =
-      (bounded-tree (omega (arith, c .before .before .loop .inv .fit, c .before .before .loop .inv .same)) (c .before .before .loop .inv .on) (c .before .before .loop .inv .within), λ from us zs left s e. let w = c .before .before .loop .inv .state from us zs left s e in
-      stops w _ refl (choose-true _ _ (sym (c .before .current-is .ensures) ∙ not-false _ (c .if1 .left))))
+  returns-2 c = (
+    bounded-tree (omega (arith, c .before .before .loop .inv .fit, c .before .before .loop .inv .same)) (c .before .before .loop .inv .on) (c .before .before .loop .inv .within),
+    λ from us zs left s e. let w = c .before .before .loop .inv .state from us zs left s e in
+        stops w _ refl (choose-true _ _ (sym (c .before .current-is .ensures) ∙ not-false _ (c .if1 .left))),
+  )

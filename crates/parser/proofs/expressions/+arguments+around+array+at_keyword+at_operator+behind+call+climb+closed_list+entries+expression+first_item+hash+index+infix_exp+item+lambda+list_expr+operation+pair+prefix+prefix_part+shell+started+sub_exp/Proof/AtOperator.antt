@@ -17,8 +17,8 @@ use Rattle.parser.proofs.expressions.hash.Reads as hash-reads
 use Rattle.parser.proofs.expressions.prefix.Reads as prefix-reads
 use Rattle.parser.proofs.expressions.shell.Reads as shell-reads
 use Rattle.parser.proofs.expressions.sub_exp.Reads as sub-exp-reads
-use Rattle.parser.proofs.expressions.+around+array+at_keyword+at_operator+behind+call+climb+entries+expression+hash+index+infix_exp+item+lambda+list_behind+list_expr+operation+pair+prefix+prefix_part+shell+started+sub_exp.Lts-at_operator as lts
-use Rattle.parser.proofs.expressions.+around+array+at_keyword+at_operator+behind+call+climb+entries+expression+hash+index+infix_exp+item+lambda+list_behind+list_expr+operation+pair+prefix+prefix_part+shell+started+sub_exp.Proof.Measures.{at-operator-at, array-below, hash-below, prefix-below, shell-below, sub-exp-below}
+use Rattle.parser.proofs.expressions.+arguments+around+array+at_keyword+at_operator+behind+call+climb+closed_list+entries+expression+first_item+hash+index+infix_exp+item+lambda+list_expr+operation+pair+prefix+prefix_part+shell+started+sub_exp.Lts-at_operator as lts
+use Rattle.parser.proofs.expressions.+arguments+around+array+at_keyword+at_operator+behind+call+climb+closed_list+entries+expression+first_item+hash+index+infix_exp+item+lambda+list_expr+operation+pair+prefix+prefix_part+shell+started+sub_exp.Proof.Measures.{at-operator-at, array-below, hash-below, prefix-below, shell-below, sub-exp-below}
 
 module _ (t : ℕ) where
   abbrev cs : lts.Claims

@@ -24,8 +24,8 @@ use Rattle.parser.proofs.expressions.index.Reads as index-reads
 use Rattle.parser.proofs.expressions.infix_exp.Reads as infix-exp-reads
 use Rattle.parser.proofs.expressions.operation.Reads as operation-reads
 use Rattle.parser.proofs.part.put_row.Reads as put-row-reads
-use Rattle.parser.proofs.expressions.+around+array+at_keyword+at_operator+behind+call+climb+entries+expression+hash+index+infix_exp+item+lambda+list_behind+list_expr+operation+pair+prefix+prefix_part+shell+started+sub_exp.Lts-operation as lts
-use Rattle.parser.proofs.expressions.+around+array+at_keyword+at_operator+behind+call+climb+entries+expression+hash+index+infix_exp+item+lambda+list_behind+list_expr+operation+pair+prefix+prefix_part+shell+started+sub_exp.Proof.Measures.{operation-at, call-below, index-below, infix-exp-below}
+use Rattle.parser.proofs.expressions.+arguments+around+array+at_keyword+at_operator+behind+call+climb+closed_list+entries+expression+first_item+hash+index+infix_exp+item+lambda+list_expr+operation+pair+prefix+prefix_part+shell+started+sub_exp.Lts-operation as lts
+use Rattle.parser.proofs.expressions.+arguments+around+array+at_keyword+at_operator+behind+call+climb+closed_list+entries+expression+first_item+hash+index+infix_exp+item+lambda+list_expr+operation+pair+prefix+prefix_part+shell+started+sub_exp.Proof.Measures.{operation-at, call-below, index-below, infix-exp-below}
 
 -- Whether a word is no suffix, call or index.
 abbrev others : ℕ → Bool

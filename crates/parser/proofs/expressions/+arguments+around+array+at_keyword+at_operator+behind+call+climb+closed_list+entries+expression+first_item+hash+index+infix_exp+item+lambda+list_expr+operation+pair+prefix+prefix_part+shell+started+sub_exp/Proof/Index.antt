@@ -13,8 +13,8 @@ use Rattle.parser.proofs.expressions.behind.Reads as behind-reads
 use Rattle.parser.proofs.part.closed.Reads as closed-reads
 use Rattle.parser.proofs.expressions.index.Reads as index-reads
 use Rattle.words.proofs.iterate.Reads as iterate-reads
-use Rattle.parser.proofs.expressions.+around+array+at_keyword+at_operator+behind+call+climb+entries+expression+hash+index+infix_exp+item+lambda+list_behind+list_expr+operation+pair+prefix+prefix_part+shell+started+sub_exp.Lts-index as lts
-use Rattle.parser.proofs.expressions.+around+array+at_keyword+at_operator+behind+call+climb+entries+expression+hash+index+infix_exp+item+lambda+list_behind+list_expr+operation+pair+prefix+prefix_part+shell+started+sub_exp.Proof.Measures.{index-at, behind-below}
+use Rattle.parser.proofs.expressions.+arguments+around+array+at_keyword+at_operator+behind+call+climb+closed_list+entries+expression+first_item+hash+index+infix_exp+item+lambda+list_expr+operation+pair+prefix+prefix_part+shell+started+sub_exp.Lts-index as lts
+use Rattle.parser.proofs.expressions.+arguments+around+array+at_keyword+at_operator+behind+call+climb+closed_list+entries+expression+first_item+hash+index+infix_exp+item+lambda+list_expr+operation+pair+prefix+prefix_part+shell+started+sub_exp.Proof.Measures.{index-at, behind-below}
 
 module _ (t : ℕ) where
   abbrev cs : lts.Claims
@@ -48,8 +48,7 @@ module _ (t : ℕ) where
   pub returns-2 : lts.Need-returns-2 cs (index-at t) index-reads.Post
   unfolding index item closed
   returns-2 c =
-      let b = bounds (c .before .before .before .before .before .before .before .before .before .behind .ensures .0) (c .before .before .before .before .before .r .given .1) in (
-        later (c .before .before .before .before .before .before .before .before .before .behind .kept .1 .0) (le-trans (on-step _ _ (c .before .before .before .before .before .before .before .before .before .before .iterate .ensures)) (b .on)) (c .before .before .closed .ensures .0),
-        λ from t zs left s e. let q = taken (c .before .before .before .before .before .before .before .before .before .behind .ensures .1 _ _ _ _ (stands-step _ _ (c .before .before .before .before .before .before .before .before .before .before .iterate .ensures) s)) (c .before .before .before .before .before .r .given .1) in
-            rw (← (c .before .before .before .before .before .before .before .before .before .before .iterate .ensures)) (by-eq (then-read _ (q .eq)) (c .before .before .closed .ensures .1 _ [] _ _ _ _ (q .stands) (record { few = tt; root = of-node; refs = (e, q .head, refl, refl) }))),
-      )
+      let b = bounds (c .before .before .before .before .before .before .before .before .before .behind .ensures .0) (c .before .before .before .before .before .r .given .1) in
+      (later (c .before .before .before .before .before .before .before .before .before .behind .kept .1 .0) (le-trans (on-step _ _ (c .before .before .before .before .before .before .before .before .before .before .iterate .ensures)) (b .on)) (c .before .before .closed .ensures .0),
+      λ from t zs left s e. let q = taken (c .before .before .before .before .before .before .before .before .before .behind .ensures .1 _ _ _ _ (stands-step _ _ (c .before .before .before .before .before .before .before .before .before .before .iterate .ensures) s)) (c .before .before .before .before .before .r .given .1) in
+      rw (← (c .before .before .before .before .before .before .before .before .before .before .iterate .ensures)) (by-eq (then-read _ (q .eq)) (c .before .before .closed .ensures .1 _ [] _ _ _ _ (q .stands) (record { few = tt; root = of-node; refs = (e, q .head, refl, refl) }))))

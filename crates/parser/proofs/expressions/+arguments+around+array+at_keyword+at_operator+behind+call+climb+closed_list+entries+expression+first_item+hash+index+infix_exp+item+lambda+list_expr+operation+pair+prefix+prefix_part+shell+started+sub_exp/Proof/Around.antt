@@ -10,8 +10,8 @@ use Rattle.parser.proofs.Answers.{taken, TakenOf, pass, by-eq, then-rea
 use Rattle.parser.proofs.expressions.around.Reads as around-reads
 use Rattle.parser.proofs.expressions.expression.Reads as expression-reads
 use Rattle.parser.proofs.part.put_row.Reads as put-row-reads
-use Rattle.parser.proofs.expressions.+around+array+at_keyword+at_operator+behind+call+climb+entries+expression+hash+index+infix_exp+item+lambda+list_behind+list_expr+operation+pair+prefix+prefix_part+shell+started+sub_exp.Lts-around as lts
-use Rattle.parser.proofs.expressions.+around+array+at_keyword+at_operator+behind+call+climb+entries+expression+hash+index+infix_exp+item+lambda+list_behind+list_expr+operation+pair+prefix+prefix_part+shell+started+sub_exp.Proof.Measures.{around-at, expression-below}
+use Rattle.parser.proofs.expressions.+arguments+around+array+at_keyword+at_operator+behind+call+climb+closed_list+entries+expression+first_item+hash+index+infix_exp+item+lambda+list_expr+operation+pair+prefix+prefix_part+shell+started+sub_exp.Lts-around as lts
+use Rattle.parser.proofs.expressions.+arguments+around+array+at_keyword+at_operator+behind+call+climb+closed_list+entries+expression+first_item+hash+index+infix_exp+item+lambda+list_expr+operation+pair+prefix+prefix_part+shell+started+sub_exp.Proof.Measures.{around-at, expression-below}
 
 module _ (t : ℕ) where
   abbrev cs : lts.Claims

@@ -6,8 +6,8 @@ use Rattle.parser.proofs.Moves.{falls, le-refl}
 use Rattle.parser.proofs.expressions.expression.Reads as expression-reads
 use Rattle.parser.proofs.expressions.item.Reads as item-reads
 use Rattle.parser.proofs.expressions.pair.Reads as pair-reads
-use Rattle.parser.proofs.expressions.+around+array+at_keyword+at_operator+behind+call+climb+entries+expression+hash+index+infix_exp+item+lambda+list_behind+list_expr+operation+pair+prefix+prefix_part+shell+started+sub_exp.Lts-item as lts
-use Rattle.parser.proofs.expressions.+around+array+at_keyword+at_operator+behind+call+climb+entries+expression+hash+index+infix_exp+item+lambda+list_behind+list_expr+operation+pair+prefix+prefix_part+shell+started+sub_exp.Proof.Measures.{item-at, expression-below, pair-below}
+use Rattle.parser.proofs.expressions.+arguments+around+array+at_keyword+at_operator+behind+call+climb+closed_list+entries+expression+first_item+hash+index+infix_exp+item+lambda+list_expr+operation+pair+prefix+prefix_part+shell+started+sub_exp.Lts-item as lts
+use Rattle.parser.proofs.expressions.+arguments+around+array+at_keyword+at_operator+behind+call+climb+closed_list+entries+expression+first_item+hash+index+infix_exp+item+lambda+list_expr+operation+pair+prefix+prefix_part+shell+started+sub_exp.Proof.Measures.{item-at, expression-below, pair-below}
 
 module _ (t : ℕ) where
   abbrev cs : lts.Claims

@@ -15,8 +15,8 @@ use Rattle.parser.proofs.expressions.at_keyword.Reads as at-keyword-rea
 use Rattle.parser.proofs.expressions.lambda.Reads as lambda-reads
 use Rattle.parser.proofs.part.leaf.Reads as leaf-reads
 use Rattle.parser.proofs.expressions.started.Reads as started-reads
-use Rattle.parser.proofs.expressions.+around+array+at_keyword+at_operator+behind+call+climb+entries+expression+hash+index+infix_exp+item+lambda+list_behind+list_expr+operation+pair+prefix+prefix_part+shell+started+sub_exp.Lts-at_keyword as lts
-use Rattle.parser.proofs.expressions.+around+array+at_keyword+at_operator+behind+call+climb+entries+expression+hash+index+infix_exp+item+lambda+list_behind+list_expr+operation+pair+prefix+prefix_part+shell+started+sub_exp.Proof.Measures.{at-keyword-at, lambda-below, started-below}
+use Rattle.parser.proofs.expressions.+arguments+around+array+at_keyword+at_operator+behind+call+climb+closed_list+entries+expression+first_item+hash+index+infix_exp+item+lambda+list_expr+operation+pair+prefix+prefix_part+shell+started+sub_exp.Lts-at_keyword as lts
+use Rattle.parser.proofs.expressions.+arguments+around+array+at_keyword+at_operator+behind+call+climb+closed_list+entries+expression+first_item+hash+index+infix_exp+item+lambda+list_expr+operation+pair+prefix+prefix_part+shell+started+sub_exp.Proof.Measures.{at-keyword-at, lambda-below, started-below}
 
 module _ (t : ℕ) where
   abbrev cs : lts.Claims

@@ -24,8 +24,8 @@ use Rattle.words.proofs.iterate.Reads as iterate-reads
 use Rattle.words.proofs.next_symbol_is.Reads as next-symbol-is-reads
 use Rattle.parser.proofs.expressions.pair.Reads as pair-reads
 use Rattle.parser.proofs.part.put_row.Reads as put-row-reads
-use Rattle.parser.proofs.expressions.+around+array+at_keyword+at_operator+behind+call+climb+entries+expression+hash+index+infix_exp+item+lambda+list_behind+list_expr+operation+pair+prefix+prefix_part+shell+started+sub_exp.Lts-pair as lts
-use Rattle.parser.proofs.expressions.+around+array+at_keyword+at_operator+behind+call+climb+entries+expression+hash+index+infix_exp+item+lambda+list_behind+list_expr+operation+pair+prefix+prefix_part+shell+started+sub_exp.Proof.Measures.{pair-at, behind-below, expression-below}
+use Rattle.parser.proofs.expressions.+arguments+around+array+at_keyword+at_operator+behind+call+climb+closed_list+entries+expression+first_item+hash+index+infix_exp+item+lambda+list_expr+operation+pair+prefix+prefix_part+shell+started+sub_exp.Lts-pair as lts
+use Rattle.parser.proofs.expressions.+arguments+around+array+at_keyword+at_operator+behind+call+climb+closed_list+entries+expression+first_item+hash+index+infix_exp+item+lambda+list_expr+operation+pair+prefix+prefix_part+shell+started+sub_exp.Proof.Measures.{pair-at, behind-below, expression-below}
 
 -- The definition, one reading after another.
 module _ (rules : Rules) (ts : List ℕ) (rec : Rec) (start room : ℕ) where

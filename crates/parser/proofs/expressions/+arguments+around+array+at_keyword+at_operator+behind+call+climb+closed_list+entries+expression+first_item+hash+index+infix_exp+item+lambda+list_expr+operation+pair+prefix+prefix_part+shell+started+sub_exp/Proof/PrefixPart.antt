@@ -18,8 +18,8 @@ use Rattle.words.proofs.current.Reads as current-reads
 use Rattle.parser.proofs.dots.dot_expression.Reads as dot-expression-reads
 use Rattle.parser.proofs.part.leaf.Reads as leaf-reads
 use Rattle.parser.proofs.expressions.prefix_part.Reads as prefix-part-reads
-use Rattle.parser.proofs.expressions.+around+array+at_keyword+at_operator+behind+call+climb+entries+expression+hash+index+infix_exp+item+lambda+list_behind+list_expr+operation+pair+prefix+prefix_part+shell+started+sub_exp.Lts-prefix_part as lts
-use Rattle.parser.proofs.expressions.+around+array+at_keyword+at_operator+behind+call+climb+entries+expression+hash+index+infix_exp+item+lambda+list_behind+list_expr+operation+pair+prefix+prefix_part+shell+started+sub_exp.Proof.Measures.{prefix-part-at, at-keyword-below, at-operator-below}
+use Rattle.parser.proofs.expressions.+arguments+around+array+at_keyword+at_operator+behind+call+climb+closed_list+entries+expression+first_item+hash+index+infix_exp+item+lambda+list_expr+operation+pair+prefix+prefix_part+shell+started+sub_exp.Lts-prefix_part as lts
+use Rattle.parser.proofs.expressions.+arguments+around+array+at_keyword+at_operator+behind+call+climb+closed_list+entries+expression+first_item+hash+index+infix_exp+item+lambda+list_expr+operation+pair+prefix+prefix_part+shell+started+sub_exp.Proof.Measures.{prefix-part-at, at-keyword-below, at-operator-below}
 
 module _ (t : ℕ) where
   abbrev cs : lts.Claims

@@ -23,8 +23,8 @@ use Rattle.parser.proofs.part.first_of.Reads as first-of-reads
 use Rattle.words.proofs.iterate.Reads as iterate-reads
 use Rattle.rows.proofs.link.Reads as link-reads
 use Rattle.words.proofs.next_symbol_is.Reads as next-symbol-is-reads
-use Rattle.parser.proofs.expressions.+around+array+at_keyword+at_operator+behind+call+climb+entries+expression+hash+index+infix_exp+item+lambda+list_behind+list_expr+operation+pair+prefix+prefix_part+shell+started+sub_exp.Lts-entries as lts
-use Rattle.parser.proofs.expressions.+around+array+at_keyword+at_operator+behind+call+climb+entries+expression+hash+index+infix_exp+item+lambda+list_behind+list_expr+operation+pair+prefix+prefix_part+shell+started+sub_exp.Proof.Measures.{entries-at, behind-below}
+use Rattle.parser.proofs.expressions.+arguments+around+array+at_keyword+at_operator+behind+call+climb+closed_list+entries+expression+first_item+hash+index+infix_exp+item+lambda+list_expr+operation+pair+prefix+prefix_part+shell+started+sub_exp.Lts-entries as lts
+use Rattle.parser.proofs.expressions.+arguments+around+array+at_keyword+at_operator+behind+call+climb+closed_list+entries+expression+first_item+hash+index+infix_exp+item+lambda+list_expr+operation+pair+prefix+prefix_part+shell+started+sub_exp.Proof.Measures.{entries-at, behind-below}
 
 -- What holds at each turn: the numbers fit, and from any list in the first rows the definition's loop has come as far.
 pub record Inv (rules : Rules) (ts pool₀ : List ℕ) (first : ℕ) (paired : Bool) (less k₀ h₀ : ℕ) (d₀ : ℕ) (pool : List ℕ) (k h : ℕ) (d : ℕ) : Type 0 where

@@ -3,6 +3,8 @@ use Prim.Native.Nat.{ℕ, _<_, _+_, _*_, _-_}
 use lib.ListN.{length}
 use borrow.Fn.Kinds.{In}
 use borrow.Fn.PlainCycle.{Measures, is, falls, and}
+use Rattle.parser.proofs.expressions.arguments.Reads as arguments-reads
+use Rattle.parser.proofs.expressions.arguments.Kinds as arguments-kinds
 use Rattle.parser.proofs.expressions.around.Reads as around-reads
 use Rattle.parser.proofs.expressions.around.Kinds as around-kinds
 use Rattle.parser.proofs.expressions.array.Reads as array-reads
@@ -17,10 +19,14 @@ use Rattle.parser.proofs.expressions.call.Reads as call-reads
 use Rattle.parser.proofs.expressions.call.Kinds as call-kinds
 use Rattle.parser.proofs.expressions.climb.Reads as climb-reads
 use Rattle.parser.proofs.expressions.climb.Kinds as climb-kinds
+use Rattle.parser.proofs.expressions.closed_list.Reads as closed-list-reads
+use Rattle.parser.proofs.expressions.closed_list.Kinds as closed-list-kinds
 use Rattle.parser.proofs.expressions.entries.Reads as entries-reads
 use Rattle.parser.proofs.expressions.entries.Kinds as entries-kinds
 use Rattle.parser.proofs.expressions.expression.Reads as expression-reads
 use Rattle.parser.proofs.expressions.expression.Kinds as expression-kinds
+use Rattle.parser.proofs.expressions.first_item.Reads as first-item-reads
+use Rattle.parser.proofs.expressions.first_item.Kinds as first-item-kinds
 use Rattle.parser.proofs.expressions.hash.Reads as hash-reads
 use Rattle.parser.proofs.expressions.hash.Kinds as hash-kinds
 use Rattle.parser.proofs.expressions.index.Reads as index-reads
@@ -31,8 +37,6 @@ use Rattle.parser.proofs.expressions.item.Reads as item-reads
 use Rattle.parser.proofs.expressions.item.Kinds as item-kinds
 use Rattle.parser.proofs.expressions.lambda.Reads as lambda-reads
 use Rattle.parser.proofs.expressions.lambda.Kinds as lambda-kinds
-use Rattle.parser.proofs.expressions.list_behind.Reads as list-behind-reads
-use Rattle.parser.proofs.expressions.list_behind.Kinds as list-behind-kinds
 use Rattle.parser.proofs.expressions.list_expr.Reads as list-expr-reads
 use Rattle.parser.proofs.expressions.list_expr.Kinds as list-expr-kinds
 use Rattle.parser.proofs.expressions.operation.Reads as operation-reads
@@ -50,6 +54,15 @@ use Rattle.parser.proofs.expressions.started.Kinds as started-kinds
 use Rattle.parser.proofs.expressions.sub_exp.Reads as sub-exp-reads
 use Rattle.parser.proofs.expressions.sub_exp.Kinds as sub-exp-kinds
 
+abbrev pub μ-arguments : Measures 2 arguments-kinds.ps ℕ
+μ-arguments κs a = 16 * (a .1 .1 .1 .1 .1 .1 .0 + (length (a .0 .now) - a .1 .1 .1 .1 .0)) + 8
+
+abbrev pub arguments-at : ℕ → In 2 arguments-kinds.ps
+arguments-at t = and 2 arguments-kinds.ps (is 2 arguments-kinds.ps μ-arguments t) arguments-reads.Pre
+
+abbrev pub arguments-below : ℕ → In 2 arguments-kinds.ps
+arguments-below t = and 2 arguments-kinds.ps (falls 2 arguments-kinds.ps _<_ μ-arguments t) arguments-reads.Pre
+
 abbrev pub μ-around : Measures 2 around-kinds.ps ℕ
 μ-around κs a = 16 * (a .1 .1 .1 .1 .1 .1 .1 .1 .0 + (length (a .0 .now) - a .1 .1 .1 .0)) + 1
 
@@ -60,7 +73,7 @@ abbrev pub around-below : ℕ → In 2 around-kinds.ps
 around-below t = and 2 around-kinds.ps (falls 2 around-kinds.ps _<_ μ-around t) around-reads.Pre
 
 abbrev pub μ-array : Measures 2 array-kinds.ps ℕ
-μ-array κs a = 16 * (a .1 .1 .1 .1 .1 .0 + (length (a .0 .now) - a .1 .1 .1 .0)) + 7
+μ-array κs a = 16 * (a .1 .1 .1 .1 .1 .0 + (length (a .0 .now) - a .1 .1 .1 .0)) + 8
 
 abbrev pub array-at : ℕ → In 2 array-kinds.ps
 array-at t = and 2 array-kinds.ps (is 2 array-kinds.ps μ-array t) array-reads.Pre
@@ -69,7 +82,7 @@ abbrev pub array-below : ℕ → In 2 array-kinds.ps
 array-below t = and 2 array-kinds.ps (falls 2 array-kinds.ps _<_ μ-array t) array-reads.Pre
 
 abbrev pub μ-at-keyword : Measures 2 at-keyword-kinds.ps ℕ
-μ-at-keyword κs a = 16 * (a .1 .1 .1 .1 .1 .1 .0 + (length (a .0 .now) - a .1 .1 .1 .0)) + 8
+μ-at-keyword κs a = 16 * (a .1 .1 .1 .1 .1 .1 .0 + (length (a .0 .now) - a .1 .1 .1 .0)) + 9
 
 abbrev pub at-keyword-at : ℕ → In 2 at-keyword-kinds.ps
 at-keyword-at t = and 2 at-keyword-kinds.ps (is 2 at-keyword-kinds.ps μ-at-keyword t) at-keyword-reads.Pre
@@ -78,7 +91,7 @@ abbrev pub at-keyword-below : ℕ → In 2 at-keyword-kinds.ps
 at-keyword-below t = and 2 at-keyword-kinds.ps (falls 2 at-keyword-kinds.ps _<_ μ-at-keyword t) at-keyword-reads.Pre
 
 abbrev pub μ-at-operator : Measures 2 at-operator-kinds.ps ℕ
-μ-at-operator κs a = 16 * (a .1 .1 .1 .1 .1 .1 .0 + (length (a .0 .now) - a .1 .1 .1 .0)) + 8
+μ-at-operator κs a = 16 * (a .1 .1 .1 .1 .1 .1 .0 + (length (a .0 .now) - a .1 .1 .1 .0)) + 9
 
 abbrev pub at-operator-at : ℕ → In 2 at-operator-kinds.ps
 at-operator-at t = and 2 at-operator-kinds.ps (is 2 at-operator-kinds.ps μ-at-operator t) at-operator-reads.Pre
@@ -96,7 +109,7 @@ abbrev pub behind-below : ℕ → In 2 behind-kinds.ps
 behind-below t = and 2 behind-kinds.ps (falls 2 behind-kinds.ps _<_ μ-behind t) behind-reads.Pre
 
 abbrev pub μ-call : Measures 2 call-kinds.ps ℕ
-μ-call κs a = 16 * (a .1 .1 .1 .1 .1 .1 .1 .0 + (length (a .0 .now) - a .1 .1 .1 .1 .1 .0)) + 8
+μ-call κs a = 16 * (a .1 .1 .1 .1 .1 .1 .1 .0 + (length (a .0 .now) - a .1 .1 .1 .1 .1 .0)) + 9
 
 abbrev pub call-at : ℕ → In 2 call-kinds.ps
 call-at t = and 2 call-kinds.ps (is 2 call-kinds.ps μ-call t) call-reads.Pre
@@ -105,13 +118,22 @@ abbrev pub call-below : ℕ → In 2 call-kinds.ps
 call-below t = and 2 call-kinds.ps (falls 2 call-kinds.ps _<_ μ-call t) call-reads.Pre
 
 abbrev pub μ-climb : Measures 2 climb-kinds.ps ℕ
-μ-climb κs a = 16 * (a .1 .1 .1 .1 .1 .1 .1 .1 .0 + (length (a .0 .now) - a .1 .1 .1 .1 .1 .0)) + 10
+μ-climb κs a = 16 * (a .1 .1 .1 .1 .1 .1 .1 .1 .0 + (length (a .0 .now) - a .1 .1 .1 .1 .1 .0)) + 11
 
 abbrev pub climb-at : ℕ → In 2 climb-kinds.ps
 climb-at t = and 2 climb-kinds.ps (is 2 climb-kinds.ps μ-climb t) climb-reads.Pre
 
 abbrev pub climb-below : ℕ → In 2 climb-kinds.ps
 climb-below t = and 2 climb-kinds.ps (falls 2 climb-kinds.ps _<_ μ-climb t) climb-reads.Pre
+
+abbrev pub μ-closed-list : Measures 2 closed-list-kinds.ps ℕ
+μ-closed-list κs a = 16 * (a .1 .1 .1 .1 .1 .1 .1 .1 .1 .0 + (length (a .0 .now) - a .1 .1 .1 .0)) + 7
+
+abbrev pub closed-list-at : ℕ → In 2 closed-list-kinds.ps
+closed-list-at t = and 2 closed-list-kinds.ps (is 2 closed-list-kinds.ps μ-closed-list t) closed-list-reads.Pre
+
+abbrev pub closed-list-below : ℕ → In 2 closed-list-kinds.ps
+closed-list-below t = and 2 closed-list-kinds.ps (falls 2 closed-list-kinds.ps _<_ μ-closed-list t) closed-list-reads.Pre
 
 abbrev pub μ-entries : Measures 2 entries-kinds.ps ℕ
 μ-entries κs a = 16 * (a .1 .1 .1 .1 .1 .1 .1 .1 .0 + (length (a .0 .now) - a .1 .1 .1 .1 .1 .0)) + 5
@@ -131,8 +153,17 @@ expression-at t = and 2 expression-kinds.ps (is 2 expression-kinds.ps μ-express
 abbrev pub expression-below : ℕ → In 2 expression-kinds.ps
 expression-below t = and 2 expression-kinds.ps (falls 2 expression-kinds.ps _<_ μ-expression t) expression-reads.Pre
 
+abbrev pub μ-first-item : Measures 2 first-item-kinds.ps ℕ
+μ-first-item κs a = 16 * (a .1 .1 .1 .1 .1 .1 .0 + (length (a .0 .now) - a .1 .1 .1 .0)) + 3
+
+abbrev pub first-item-at : ℕ → In 2 first-item-kinds.ps
+first-item-at t = and 2 first-item-kinds.ps (is 2 first-item-kinds.ps μ-first-item t) first-item-reads.Pre
+
+abbrev pub first-item-below : ℕ → In 2 first-item-kinds.ps
+first-item-below t = and 2 first-item-kinds.ps (falls 2 first-item-kinds.ps _<_ μ-first-item t) first-item-reads.Pre
+
 abbrev pub μ-hash : Measures 2 hash-kinds.ps ℕ
-μ-hash κs a = 16 * (a .1 .1 .1 .1 .1 .0 + (length (a .0 .now) - a .1 .1 .1 .0)) + 6
+μ-hash κs a = 16 * (a .1 .1 .1 .1 .1 .0 + (length (a .0 .now) - a .1 .1 .1 .0)) + 8
 
 abbrev pub hash-at : ℕ → In 2 hash-kinds.ps
 hash-at t = and 2 hash-kinds.ps (is 2 hash-kinds.ps μ-hash t) hash-reads.Pre
@@ -168,7 +199,7 @@ abbrev pub item-below : ℕ → In 2 item-kinds.ps
 item-below t = and 2 item-kinds.ps (falls 2 item-kinds.ps _<_ μ-item t) item-reads.Pre
 
 abbrev pub μ-lambda : Measures 2 lambda-kinds.ps ℕ
-μ-lambda κs a = 16 * (a .1 .1 .1 .1 .1 .0 + (length (a .0 .now) - a .1 .1 .1 .0)) + 7
+μ-lambda κs a = 16 * (a .1 .1 .1 .1 .1 .0 + (length (a .0 .now) - a .1 .1 .1 .0)) + 8
 
 abbrev pub lambda-at : ℕ → In 2 lambda-kinds.ps
 lambda-at t = and 2 lambda-kinds.ps (is 2 lambda-kinds.ps μ-lambda t) lambda-reads.Pre
@@ -176,17 +207,8 @@ lambda-at t = and 2 lambda-kinds.ps (is 2 lambda-kinds.ps μ-lambda t) lambda-re
 abbrev pub lambda-below : ℕ → In 2 lambda-kinds.ps
 lambda-below t = and 2 lambda-kinds.ps (falls 2 lambda-kinds.ps _<_ μ-lambda t) lambda-reads.Pre
 
-abbrev pub μ-list-behind : Measures 2 list-behind-kinds.ps ℕ
-μ-list-behind κs a = 16 * (a .1 .1 .1 .1 .1 .1 .0 + (length (a .0 .now) - a .1 .1 .1 .1 .0)) + 7
-
-abbrev pub list-behind-at : ℕ → In 2 list-behind-kinds.ps
-list-behind-at t = and 2 list-behind-kinds.ps (is 2 list-behind-kinds.ps μ-list-behind t) list-behind-reads.Pre
-
-abbrev pub list-behind-below : ℕ → In 2 list-behind-kinds.ps
-list-behind-below t = and 2 list-behind-kinds.ps (falls 2 list-behind-kinds.ps _<_ μ-list-behind t) list-behind-reads.Pre
-
 abbrev pub μ-list-expr : Measures 2 list-expr-kinds.ps ℕ
-μ-list-expr κs a = 16 * (a .1 .1 .1 .1 .1 .0 + (length (a .0 .now) - a .1 .1 .1 .0)) + 6
+μ-list-expr κs a = 16 * (a .1 .1 .1 .1 .1 .1 .0 + (length (a .0 .now) - a .1 .1 .1 .0)) + 6
 
 abbrev pub list-expr-at : ℕ → In 2 list-expr-kinds.ps
 list-expr-at t = and 2 list-expr-kinds.ps (is 2 list-expr-kinds.ps μ-list-expr t) list-expr-reads.Pre
@@ -195,7 +217,7 @@ abbrev pub list-expr-below : ℕ → In 2 list-expr-kinds.ps
 list-expr-below t = and 2 list-expr-kinds.ps (falls 2 list-expr-kinds.ps _<_ μ-list-expr t) list-expr-reads.Pre
 
 abbrev pub μ-operation : Measures 2 operation-kinds.ps ℕ
-μ-operation κs a = 16 * (a .1 .1 .1 .1 .1 .1 .1 .0 + (length (a .0 .now) - a .1 .1 .1 .1 .1 .0)) + 9
+μ-operation κs a = 16 * (a .1 .1 .1 .1 .1 .1 .1 .0 + (length (a .0 .now) - a .1 .1 .1 .1 .1 .0)) + 10
 
 abbrev pub operation-at : ℕ → In 2 operation-kinds.ps
 operation-at t = and 2 operation-kinds.ps (is 2 operation-kinds.ps μ-operation t) operation-reads.Pre
@@ -222,7 +244,7 @@ abbrev pub prefix-below : ℕ → In 2 prefix-kinds.ps
 prefix-below t = and 2 prefix-kinds.ps (falls 2 prefix-kinds.ps _<_ μ-prefix t) prefix-reads.Pre
 
 abbrev pub μ-prefix-part : Measures 2 prefix-part-kinds.ps ℕ
-μ-prefix-part κs a = 16 * (a .1 .1 .1 .1 .1 .0 + (length (a .0 .now) - a .1 .1 .1 .0)) + 9
+μ-prefix-part κs a = 16 * (a .1 .1 .1 .1 .1 .0 + (length (a .0 .now) - a .1 .1 .1 .0)) + 10
 
 abbrev pub prefix-part-at : ℕ → In 2 prefix-part-kinds.ps
 prefix-part-at t = and 2 prefix-part-kinds.ps (is 2 prefix-part-kinds.ps μ-prefix-part t) prefix-part-reads.Pre
