@@ -21,7 +21,7 @@ module _ {B : Type 0} (ts : List ℕ) (f : Tree × ℕ × ℕ → Parsed B) (at 
   module _ (due : Due) (block : Reader Tree) where
     pub body-then : (sign missing bare : ℕ) → (body due ts block sign missing bare at room >>= f)
         ≡ (need (next-is ts at sign) missing at >> (need (comes due ts (step ts at) SLBrace) bare (step ts at) >> (block (step ts at) room >>= f)))
-    unfolding body
+    unfolding body braced
     body-then sign missing bare =
         sym (checked-then _ _ f) ∙ ap (λ (x : Parsed B). need (next-is ts at sign) missing at >> x) (sym (checked-then _ _ f))
 

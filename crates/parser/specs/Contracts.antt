@@ -84,18 +84,17 @@ behind-sign ts rec sign number at room = do
   need (next-is ts at sign) number at
   rec Zero (step ts (step ts at)) room
 
--- A sign that comes next, an opening brace behind it, where it is due, and the block.
-unfoldable pub body : (due : Due) (ts : List ℕ) (block : Reader Tree) (sign missing bare : ℕ) → Reader Tree
-body due ts block sign missing bare at room = do
-  need (next-is ts at sign) missing at
-  need (comes due ts (step ts at) SLBrace) bare (step ts at)
-  block (step ts at) room
-
 -- An opening brace that comes next, where it is due, and the block.
 unfoldable pub braced : (due : Due) (ts : List ℕ) (block : Reader Tree) (number : ℕ) → Reader Tree
 braced due ts block number at room = do
   need (comes due ts at SLBrace) number at
   block at room
+
+-- A sign that comes next, and behind it an opening brace, where it is due, and the block.
+unfoldable pub body : (due : Due) (ts : List ℕ) (block : Reader Tree) (sign missing bare : ℕ) → Reader Tree
+body due ts block sign missing bare at room = do
+  need (next-is ts at sign) missing at
+  braced due ts block bare (step ts at) room
 
 -- The keywords of statements that may not end right behind them.
 unfoldable pub further : ℕ → Bool

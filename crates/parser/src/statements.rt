@@ -235,10 +235,7 @@ fn body(
         return Read::Refused(missing, c);
     }
     let d = words::iterate(tokens, c);
-    if !words::comes(tokens, d, Symbol::SLBrace, due) {
-        return Read::Refused(bare, d);
-    }
-    block_behind(tokens, pool, first, rows, d, mode, less)
+    braced(tokens, pool, first, rows, d, due, bare, mode, less)
 }
 
 // parse_function_statement behind `func`, at the name.

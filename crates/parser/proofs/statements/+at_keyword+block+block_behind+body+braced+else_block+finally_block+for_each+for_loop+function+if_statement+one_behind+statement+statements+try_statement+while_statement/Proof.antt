@@ -205,15 +205,13 @@ pub +at-keyword+block+block-behind+body+braced+else-block+finally-block+for-each
     (block-behind-needs.add-t14 t)
     (block-behind-needs.same-length-2 t)
     (block-behind-needs.returns-2 t))
-    (λ t. body-lts.spec (next-symbol-is-reads.Asked, next-symbol-is-reads.Learnt, iterate-reads.Asked, iterate-reads.Learnt, comes-reads.Asked, comes-reads.Learnt, block-behind-below t, block-behind-reads.Post) (body-at t) body-reads.Post
+    (λ t. body-lts.spec (next-symbol-is-reads.Asked, next-symbol-is-reads.Learnt, iterate-reads.Asked, iterate-reads.Learnt, braced-below t, braced-reads.Post) (body-at t) body-reads.Post
     (body-needs.next-symbol-is-requires t)
     (body-needs.returns t)
     (body-needs.iterate-requires t)
-    (body-needs.comes-requires t)
-    (body-needs.returns-2 t)
-    (body-needs.block-behind-requires t)
+    (body-needs.braced-requires t)
     (body-needs.same-length t)
-    (body-needs.returns-3 t))
+    (body-needs.returns-2 t))
     (λ t. braced-lts.spec (comes-reads.Asked, comes-reads.Learnt, block-behind-below t, block-behind-reads.Post) (braced-at t) braced-reads.Post
     (braced-needs.comes-requires t)
     (braced-needs.returns t)

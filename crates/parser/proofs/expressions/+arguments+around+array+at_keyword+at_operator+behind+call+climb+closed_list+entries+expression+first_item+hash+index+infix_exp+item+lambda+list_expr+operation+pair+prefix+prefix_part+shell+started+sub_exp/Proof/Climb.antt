@@ -76,9 +76,11 @@ module _ (t : ℕ) where
 
   pub returns : lts.Need-returns cs (climb-at t) climb-reads.Post Inv-loop μ-loop
   unfolding climb
-  returns c =
-      (bounded-told (c .passed .ensures ∙ c .before .enum-told .given .1), λ from t zs left s e. let w = c .before .before .before .before .before .before .before .before .before .before .before .loop .inv .state from t zs left s e in
-      by-eq (w .eq ∙ choose-true _ _ (ap (goes-on _) (sym (ap word (c .before .before .before .before .before .before .before .before .before .before .next .ensures) ∙ word-token _ (c .before .before .before .before .before .before .before .before .before .before .before .before .before .before .pre .1 .0 .sound .good (step (c .before .before .before .before .before .before .before .before .before .before .before .before .before .before .args .tokens .now) (c .before .before .before .before .before .before .before .before .before .before .before .loop .d))))) ∙ sym (c .before .before .before .before .before .before .before .before .before .goes-on .ensures) ∙ c .before .before .before .before .before .before .before .before .if1 .taken)) (rw (← (c .before .before .before .before .before .before .iterate .ensures)) (told (sym (c .passed .ensures)) (pass _ (c .before .before .before .before .before .operation .ensures .1 _ _ _ _ (stands-step _ _ (c .before .before .before .before .before .before .iterate .ensures) (w .stands)) (w .head)) (c .before .enum-told .given .1)))))
+  returns c = (
+    bounded-told (c .passed .ensures ∙ c .before .enum-told .given .1),
+    λ from t zs left s e. let w = c .before .before .before .before .before .before .before .before .before .before .before .loop .inv .state from t zs left s e in
+        by-eq (w .eq ∙ choose-true _ _ (ap (goes-on _) (sym (ap word (c .before .before .before .before .before .before .before .before .before .before .next .ensures) ∙ word-token _ (c .before .before .before .before .before .before .before .before .before .before .before .before .before .before .pre .1 .0 .sound .good (step (c .before .before .before .before .before .before .before .before .before .before .before .before .before .before .args .tokens .now) (c .before .before .before .before .before .before .before .before .before .before .before .loop .d))))) ∙ sym (c .before .before .before .before .before .before .before .before .before .goes-on .ensures) ∙ c .before .before .before .before .before .before .before .before .if1 .taken)) (rw (← (c .before .before .before .before .before .before .iterate .ensures)) (told (sym (c .passed .ensures)) (pass _ (c .before .before .before .before .before .operation .ensures .1 _ _ _ _ (stands-step _ _ (c .before .before .before .before .before .before .iterate .ensures) (w .stands)) (w .head)) (c .before .enum-told .given .1)))),
+  )
 
   pub loop-less : lts.Need-loop-less cs (climb-at t) climb-reads.Post Inv-loop μ-loop
   loop-less c = let b = bounds (c .before .before .before .before .before .operation .ensures .0) (c .before .r .given .1) in omega (arith, b .on, b .within, goes-onward _ (c .before .before .before .before .before .before .before .before .before .before .before .before .before .before .pre .1 .0 .sound) (c .before .before .before .before .before .before .before .before .before .before .before .loop .inv .within) (ap (goes-on _) (sym (ap word (c .before .before .before .before .before .before .before .before .before .before .next .ensures) ∙ word-token _ (c .before .before .before .before .before .before .before .before .before .before .before .before .before .before .pre .1 .0 .sound .good (step (c .before .before .before .before .before .before .before .before .before .before .before .before .before .before .args .tokens .now) (c .before .before .before .before .before .before .before .before .before .before .before .loop .d))))) ∙ sym (c .before .before .before .before .before .before .before .before .before .goes-on .ensures) ∙ c .before .before .before .before .before .before .before .before .if1 .taken), c .before .before .before .before .before .before .iterate .ensures)
@@ -93,7 +95,7 @@ module _ (t : ℕ) where
         on = le-trans (c .before .before .before .before .before .before .before .before .before .before .before .loop .inv .on) (le-trans (on-step _ _ (c .before .before .before .before .before .before .iterate .ensures)) (b .on));
         within = b .within;
         state = λ from t zs left s e. let w = c .before .before .before .before .before .before .before .before .before .before .before .loop .inv .state from t zs left s e in let q = taken (c .before .before .before .before .before .operation .ensures .1 _ _ _ _ (stands-step _ _ (c .before .before .before .before .before .before .iterate .ensures) (w .stands)) (w .head)) (c .before .r .given .1) in
-        turns-on w _ _ (choose-true _ _ (ap (goes-on _) (sym (ap word (c .before .before .before .before .before .before .before .before .before .before .next .ensures) ∙ word-token _ (c .before .before .before .before .before .before .before .before .before .before .before .before .before .before .pre .1 .0 .sound .good (step (c .before .before .before .before .before .before .before .before .before .before .before .before .before .before .args .tokens .now) (c .before .before .before .before .before .before .before .before .before .before .before .loop .d))))) ∙ sym (c .before .before .before .before .before .before .before .before .before .goes-on .ensures) ∙ c .before .before .before .before .before .before .before .before .if1 .taken) ∙ rw (← (c .before .before .before .before .before .before .iterate .ensures)) (then-read _ (q .eq))) (omega (arith, b .on, goes-onward _ (c .before .before .before .before .before .before .before .before .before .before .before .before .before .before .pre .1 .0 .sound) (c .before .before .before .before .before .before .before .before .before .before .before .loop .inv .within) (ap (goes-on _) (sym (ap word (c .before .before .before .before .before .before .before .before .before .before .next .ensures) ∙ word-token _ (c .before .before .before .before .before .before .before .before .before .before .before .before .before .before .pre .1 .0 .sound .good (step (c .before .before .before .before .before .before .before .before .before .before .before .before .before .before .args .tokens .now) (c .before .before .before .before .before .before .before .before .before .before .before .loop .d))))) ∙ sym (c .before .before .before .before .before .before .before .before .before .goes-on .ensures) ∙ c .before .before .before .before .before .before .before .before .if1 .taken), c .before .before .before .before .before .before .iterate .ensures)) (q .head) (q .stands)
+            turns-on w _ _ (choose-true _ _ (ap (goes-on _) (sym (ap word (c .before .before .before .before .before .before .before .before .before .before .next .ensures) ∙ word-token _ (c .before .before .before .before .before .before .before .before .before .before .before .before .before .before .pre .1 .0 .sound .good (step (c .before .before .before .before .before .before .before .before .before .before .before .before .before .before .args .tokens .now) (c .before .before .before .before .before .before .before .before .before .before .before .loop .d))))) ∙ sym (c .before .before .before .before .before .before .before .before .before .goes-on .ensures) ∙ c .before .before .before .before .before .before .before .before .if1 .taken) ∙ rw (← (c .before .before .before .before .before .before .iterate .ensures)) (then-read _ (q .eq))) (omega (arith, b .on, goes-onward _ (c .before .before .before .before .before .before .before .before .before .before .before .before .before .before .pre .1 .0 .sound) (c .before .before .before .before .before .before .before .before .before .before .before .loop .inv .within) (ap (goes-on _) (sym (ap word (c .before .before .before .before .before .before .before .before .before .before .next .ensures) ∙ word-token _ (c .before .before .before .before .before .before .before .before .before .before .before .before .before .before .pre .1 .0 .sound .good (step (c .before .before .before .before .before .before .before .before .before .before .before .before .before .before .args .tokens .now) (c .before .before .before .before .before .before .before .before .before .before .before .loop .d))))) ∙ sym (c .before .before .before .before .before .before .before .before .before .goes-on .ensures) ∙ c .before .before .before .before .before .before .before .before .if1 .taken), c .before .before .before .before .before .before .iterate .ensures)) (q .head) (q .stands);
       }
 
   pub same-length-2 : lts.Need-same-length-2 cs (climb-at t) climb-reads.Post Inv-loop μ-loop
@@ -101,6 +103,8 @@ module _ (t : ℕ) where
 
   pub returns-2 : lts.Need-returns-2 cs (climb-at t) climb-reads.Post Inv-loop μ-loop
   unfolding climb
-  returns-2 c =
-      (bounded-tree (omega (arith, c .before .before .before .loop .inv .fit, c .before .before .before .loop .inv .same)) (c .before .before .before .loop .inv .on) (c .before .before .before .loop .inv .within), λ from t zs left s e. let w = c .before .before .before .loop .inv .state from t zs left s e in
-      stops w _ refl (choose-false _ _ (ap (goes-on _) (sym (ap word (c .before .before .next .ensures) ∙ word-token _ (c .before .before .before .before .before .before .pre .1 .0 .sound .good (step (c .before .before .before .before .before .before .args .tokens .now) (c .before .before .before .loop .d))))) ∙ sym (c .before .goes-on .ensures) ∙ c .if1 .left)))
+  returns-2 c = (
+    bounded-tree (omega (arith, c .before .before .before .loop .inv .fit, c .before .before .before .loop .inv .same)) (c .before .before .before .loop .inv .on) (c .before .before .before .loop .inv .within),
+    λ from t zs left s e. let w = c .before .before .before .loop .inv .state from t zs left s e in
+        stops w _ refl (choose-false _ _ (ap (goes-on _) (sym (ap word (c .before .before .next .ensures) ∙ word-token _ (c .before .before .before .before .before .before .pre .1 .0 .sound .good (step (c .before .before .before .before .before .before .args .tokens .now) (c .before .before .before .loop .d))))) ∙ sym (c .before .goes-on .ensures) ∙ c .if1 .left)),
+  )

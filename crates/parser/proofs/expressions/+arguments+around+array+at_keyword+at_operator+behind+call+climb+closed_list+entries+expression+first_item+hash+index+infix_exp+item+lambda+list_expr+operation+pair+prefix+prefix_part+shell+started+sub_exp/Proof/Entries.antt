@@ -59,9 +59,10 @@ module _ (t : ℕ) where
   iterate-requires-2 c κs = search needs
 
   pub behind-requires : lts.Need-behind-requires cs (entries-at t) entries-reads.Post Inv-loop μ-loop
-  behind-requires c κs =
-      (falls _ _ _ _ _ _ _ (c .before .before .before .before .before .before .before .before .pre .0) (le-trans (c .before .before .before .before .before .loop .inv .on) (le-trans (on-step _ _ (c .before .before .iterate .ensures)) (on-step _ _ (c .before .iterate2 .ensures)))) (lit< tt),
-      (ready-step _ _ (c .before .iterate2 .ensures) (ready-step _ _ (c .before .before .iterate .ensures) (ready-same (c .before .before .before .before .before .before .before .before .pre .1 .0) (c .before .before .before .before .before .loop .inv .same) (c .before .before .before .before .before .loop .inv .within))), c .before .before .before .before .before .loop .inv .fit))
+  behind-requires c κs = (
+    falls _ _ _ _ _ _ _ (c .before .before .before .before .before .before .before .before .pre .0) (le-trans (c .before .before .before .before .before .loop .inv .on) (le-trans (on-step _ _ (c .before .before .iterate .ensures)) (on-step _ _ (c .before .iterate2 .ensures)))) (lit< tt),
+    (ready-step _ _ (c .before .iterate2 .ensures) (ready-step _ _ (c .before .before .iterate .ensures) (ready-same (c .before .before .before .before .before .before .before .before .pre .1 .0) (c .before .before .before .before .before .loop .inv .same) (c .before .before .before .before .before .loop .inv .within))), c .before .before .before .before .before .loop .inv .fit),
+  )
 
   pub enum-known-r : lts.Need-enum-known-r cs (entries-at t) entries-reads.Post Inv-loop μ-loop
   enum-known-r c = c .match .keys1
@@ -74,9 +75,11 @@ module _ (t : ℕ) where
 
   pub returns : lts.Need-returns cs (entries-at t) entries-reads.Post Inv-loop μ-loop
   unfolding entries
-  returns c =
-      (bounded-told (c .enum-told .given .1), λ from us zs left s e. let w = c .before .before .before .before .before .before .before .before .before .before .loop .inv .state from us zs left s e in
-      by-eq (w .eq ∙ choose-true _ _ (sym (c .before .before .before .before .before .before .before .before .before .next-symbol-is .ensures) ∙ c .before .before .before .before .before .before .before .before .if1 .taken)) (rw (← (c .before .before .before .before .before .before .before .iterate .ensures), ← (c .before .before .before .before .before .before .iterate2 .ensures)) (pass _ (c .before .before .before .before .behind .ensures .1 _ _ _ _ (stands-step _ _ (c .before .before .before .before .before .before .iterate2 .ensures) (stands-step _ _ (c .before .before .before .before .before .before .before .iterate .ensures) (w .stands)))) (c .enum-told .given .1))))
+  returns c = (
+    bounded-told (c .enum-told .given .1),
+    λ from us zs left s e. let w = c .before .before .before .before .before .before .before .before .before .before .loop .inv .state from us zs left s e in
+        by-eq (w .eq ∙ choose-true _ _ (sym (c .before .before .before .before .before .before .before .before .before .next-symbol-is .ensures) ∙ c .before .before .before .before .before .before .before .before .if1 .taken)) (rw (← (c .before .before .before .before .before .before .before .iterate .ensures), ← (c .before .before .before .before .before .before .iterate2 .ensures)) (pass _ (c .before .before .before .before .behind .ensures .1 _ _ _ _ (stands-step _ _ (c .before .before .before .before .before .before .iterate2 .ensures) (stands-step _ _ (c .before .before .before .before .before .before .before .iterate .ensures) (w .stands)))) (c .enum-told .given .1))),
+  )
 
   pub link-requires : lts.Need-link-requires cs (entries-at t) entries-reads.Post Inv-loop μ-loop
   link-requires c κs = search needs
@@ -97,8 +100,8 @@ module _ (t : ℕ) where
         on = le-trans (c .before .before .before .before .before .before .before .before .before .before .before .before .before .before .before .before .loop .inv .on) (le-trans (on-step _ _ (c .before .before .before .before .before .before .before .before .before .before .before .before .before .iterate .ensures)) (le-trans (on-step _ _ (c .before .before .before .before .before .before .before .before .before .before .before .before .iterate2 .ensures)) (b .on)));
         within = b .within;
         state = λ from us zs left s e. let w = c .before .before .before .before .before .before .before .before .before .before .before .before .before .before .before .before .loop .inv .state from us zs left s e in let q = taken (c .before .before .before .before .before .before .before .before .before .before .behind .ensures .1 _ _ _ _ (stands-step _ _ (c .before .before .before .before .before .before .before .before .before .before .before .before .iterate2 .ensures) (stands-step _ _ (c .before .before .before .before .before .before .before .before .before .before .before .before .before .iterate .ensures) (w .stands)))) (c .before .before .before .before .before .before .r .given .1) in
-        rw (c .first-of .ensures, c .before .before .before .link .ensures)
-        (lengthens w _ (q .stands) (q .head) (choose-true _ _ (sym (c .before .before .before .before .before .before .before .before .before .before .before .before .before .before .before .next-symbol-is .ensures) ∙ c .before .before .before .before .before .before .before .before .before .before .before .before .before .before .if1 .taken) ∙ rw (← (c .before .before .before .before .before .before .before .before .before .before .before .before .before .iterate .ensures), ← (c .before .before .before .before .before .before .before .before .before .before .before .before .iterate2 .ensures)) (then-read _ (q .eq))) (omega (arith, b .on, moves-next SComma (c .before .before .before .before .before .before .before .before .before .before .before .before .before .before .before .before .before .before .before .pre .1 .0 .sound) (c .before .before .before .before .before .before .before .before .before .before .before .before .before .before .before .before .loop .inv .within) (sym (c .before .before .before .before .before .before .before .before .before .before .before .before .before .before .before .next-symbol-is .ensures) ∙ c .before .before .before .before .before .before .before .before .before .before .before .before .before .before .if1 .taken) refl, c .before .before .before .before .before .before .before .before .before .before .before .before .before .iterate .ensures, on-step _ _ (c .before .before .before .before .before .before .before .before .before .before .before .before .iterate2 .ensures))) (omega arith) (b .within))
+            rw (c .first-of .ensures, c .before .before .before .link .ensures)
+            (lengthens w _ (q .stands) (q .head) (choose-true _ _ (sym (c .before .before .before .before .before .before .before .before .before .before .before .before .before .before .before .next-symbol-is .ensures) ∙ c .before .before .before .before .before .before .before .before .before .before .before .before .before .before .if1 .taken) ∙ rw (← (c .before .before .before .before .before .before .before .before .before .before .before .before .before .iterate .ensures), ← (c .before .before .before .before .before .before .before .before .before .before .before .before .iterate2 .ensures)) (then-read _ (q .eq))) (omega (arith, b .on, moves-next SComma (c .before .before .before .before .before .before .before .before .before .before .before .before .before .before .before .before .before .before .before .pre .1 .0 .sound) (c .before .before .before .before .before .before .before .before .before .before .before .before .before .before .before .before .loop .inv .within) (sym (c .before .before .before .before .before .before .before .before .before .before .before .before .before .before .before .next-symbol-is .ensures) ∙ c .before .before .before .before .before .before .before .before .before .before .before .before .before .before .if1 .taken) refl, c .before .before .before .before .before .before .before .before .before .before .before .before .before .iterate .ensures, on-step _ _ (c .before .before .before .before .before .before .before .before .before .before .before .before .iterate2 .ensures))) (omega arith) (b .within));
       }
 
   pub same-length-2 : lts.Need-same-length-2 cs (entries-at t) entries-reads.Post Inv-loop μ-loop
@@ -106,6 +109,8 @@ module _ (t : ℕ) where
 
   pub returns-2 : lts.Need-returns-2 cs (entries-at t) entries-reads.Post Inv-loop μ-loop
   unfolding entries
-  returns-2 c =
-      (bounded-tree (omega (arith, c .before .before .loop .inv .fit, c .before .before .loop .inv .same)) (c .before .before .loop .inv .on) (c .before .before .loop .inv .within), λ from us zs left s e. let w = c .before .before .loop .inv .state from us zs left s e in
-      stops w _ refl (choose-false _ _ (sym (c .before .next-symbol-is .ensures) ∙ c .if1 .left)))
+  returns-2 c = (
+    bounded-tree (omega (arith, c .before .before .loop .inv .fit, c .before .before .loop .inv .same)) (c .before .before .loop .inv .on) (c .before .before .loop .inv .within),
+    λ from us zs left s e. let w = c .before .before .loop .inv .state from us zs left s e in
+        stops w _ refl (choose-false _ _ (sym (c .before .next-symbol-is .ensures) ∙ c .if1 .left)),
+  )

@@ -48,7 +48,8 @@ module _ (t : ℕ) where
   pub returns-2 : lts.Need-returns-2 cs (index-at t) index-reads.Post
   unfolding index item closed
   returns-2 c =
-      let b = bounds (c .before .before .before .before .before .before .before .before .before .behind .ensures .0) (c .before .before .before .before .before .r .given .1) in
-      (later (c .before .before .before .before .before .before .before .before .before .behind .kept .1 .0) (le-trans (on-step _ _ (c .before .before .before .before .before .before .before .before .before .before .iterate .ensures)) (b .on)) (c .before .before .closed .ensures .0),
-      λ from t zs left s e. let q = taken (c .before .before .before .before .before .before .before .before .before .behind .ensures .1 _ _ _ _ (stands-step _ _ (c .before .before .before .before .before .before .before .before .before .before .iterate .ensures) s)) (c .before .before .before .before .before .r .given .1) in
-      rw (← (c .before .before .before .before .before .before .before .before .before .before .iterate .ensures)) (by-eq (then-read _ (q .eq)) (c .before .before .closed .ensures .1 _ [] _ _ _ _ (q .stands) (record { few = tt; root = of-node; refs = (e, q .head, refl, refl) }))))
+      let b = bounds (c .before .before .before .before .before .before .before .before .before .behind .ensures .0) (c .before .before .before .before .before .r .given .1) in (
+        later (c .before .before .before .before .before .before .before .before .before .behind .kept .1 .0) (le-trans (on-step _ _ (c .before .before .before .before .before .before .before .before .before .before .iterate .ensures)) (b .on)) (c .before .before .closed .ensures .0),
+        λ from t zs left s e. let q = taken (c .before .before .before .before .before .before .before .before .before .behind .ensures .1 _ _ _ _ (stands-step _ _ (c .before .before .before .before .before .before .before .before .before .before .iterate .ensures) s)) (c .before .before .before .before .before .r .given .1) in
+            rw (← (c .before .before .before .before .before .before .before .before .before .before .iterate .ensures)) (by-eq (then-read _ (q .eq)) (c .before .before .closed .ensures .1 _ [] _ _ _ _ (q .stands) (record { few = tt; root = of-node; refs = (e, q .head, refl, refl) }))),
+      )

@@ -64,7 +64,7 @@ abbrev pub block-behind-below : ℕ → In 2 block-behind-kinds.ps
 block-behind-below t = and 2 block-behind-kinds.ps (falls 2 block-behind-kinds.ps _<_ μ-block-behind t) block-behind-reads.Pre
 
 abbrev pub μ-body : Measures 2 body-kinds.ps ℕ
-μ-body κs a = 16 * (a .1 .1 .1 .1 .1 .1 .1 .1 .1 .1 .0 + (length (a .0 .now) - a .1 .1 .1 .1 .0)) + 5
+μ-body κs a = 16 * (a .1 .1 .1 .1 .1 .1 .1 .1 .1 .1 .0 + (length (a .0 .now) - a .1 .1 .1 .1 .0)) + 6
 
 abbrev pub body-at : ℕ → In 2 body-kinds.ps
 body-at t = and 2 body-kinds.ps (is 2 body-kinds.ps μ-body t) body-reads.Pre
@@ -100,7 +100,7 @@ abbrev pub finally-block-below : ℕ → In 2 finally-block-kinds.ps
 finally-block-below t = and 2 finally-block-kinds.ps (falls 2 finally-block-kinds.ps _<_ μ-finally-block t) finally-block-reads.Pre
 
 abbrev pub μ-for-each : Measures 2 for-each-kinds.ps ℕ
-μ-for-each κs a = 16 * (a .1 .1 .1 .1 .1 .0 + (length (a .0 .now) - a .1 .1 .1 .0)) + 6
+μ-for-each κs a = 16 * (a .1 .1 .1 .1 .1 .0 + (length (a .0 .now) - a .1 .1 .1 .0)) + 7
 
 abbrev pub for-each-at : ℕ → In 2 for-each-kinds.ps
 for-each-at t = and 2 for-each-kinds.ps (is 2 for-each-kinds.ps μ-for-each t) for-each-reads.Pre
@@ -109,7 +109,7 @@ abbrev pub for-each-below : ℕ → In 2 for-each-kinds.ps
 for-each-below t = and 2 for-each-kinds.ps (falls 2 for-each-kinds.ps _<_ μ-for-each t) for-each-reads.Pre
 
 abbrev pub μ-for-loop : Measures 2 for-loop-kinds.ps ℕ
-μ-for-loop κs a = 16 * (a .1 .1 .1 .1 .1 .0 + (length (a .0 .now) - a .1 .1 .1 .0)) + 6
+μ-for-loop κs a = 16 * (a .1 .1 .1 .1 .1 .0 + (length (a .0 .now) - a .1 .1 .1 .0)) + 7
 
 abbrev pub for-loop-at : ℕ → In 2 for-loop-kinds.ps
 for-loop-at t = and 2 for-loop-kinds.ps (is 2 for-loop-kinds.ps μ-for-loop t) for-loop-reads.Pre
@@ -172,7 +172,7 @@ abbrev pub try-statement-below : ℕ → In 2 try-statement-kinds.ps
 try-statement-below t = and 2 try-statement-kinds.ps (falls 2 try-statement-kinds.ps _<_ μ-try-statement t) try-statement-reads.Pre
 
 abbrev pub μ-while-statement : Measures 2 while-statement-kinds.ps ℕ
-μ-while-statement κs a = 16 * (a .1 .1 .1 .1 .1 .0 + (length (a .0 .now) - a .1 .1 .1 .0)) + 6
+μ-while-statement κs a = 16 * (a .1 .1 .1 .1 .1 .0 + (length (a .0 .now) - a .1 .1 .1 .0)) + 7
 
 abbrev pub while-statement-at : ℕ → In 2 while-statement-kinds.ps
 while-statement-at t = and 2 while-statement-kinds.ps (is 2 while-statement-kinds.ps μ-while-statement t) while-statement-reads.Pre
