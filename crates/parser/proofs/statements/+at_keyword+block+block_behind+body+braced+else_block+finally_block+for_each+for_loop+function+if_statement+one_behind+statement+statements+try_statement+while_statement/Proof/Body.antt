@@ -36,6 +36,7 @@ module _ (t : ℕ) where
 
   pub returns-2 : lts.Need-returns-2 cs (body-at t) body-reads.Post
   unfolding body
-  returns-2 c =
-      (later refl (on-step _ _ (c .before .before .before .before .iterate .ensures)) (c .before .before .braced .ensures .0),
-      λ from slots zs left s. by-eq (need-met _ _ _ (sym (c .before .before .before .before .before .before .next-symbol-is .ensures) ∙ not-false _ (c .before .before .before .before .before .if1 .left))) (rw (← (c .before .before .before .before .iterate .ensures)) (c .before .before .braced .ensures .1 _ _ _ _ (stands-step _ _ (c .before .before .before .before .iterate .ensures) s))))
+  returns-2 c = (
+    later refl (on-step _ _ (c .before .before .before .before .iterate .ensures)) (c .before .before .braced .ensures .0),
+    λ from slots zs left s. by-eq (need-met _ _ _ (sym (c .before .before .before .before .before .before .next-symbol-is .ensures) ∙ not-false _ (c .before .before .before .before .before .if1 .left))) (rw (← (c .before .before .before .before .iterate .ensures)) (c .before .before .braced .ensures .1 _ _ _ _ (stands-step _ _ (c .before .before .before .before .iterate .ensures) s))),
+  )
