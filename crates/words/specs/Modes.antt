@@ -23,6 +23,11 @@ abbrev pub chosen : Bool → Mode
 chosen true = Strict
 chosen false = Old
 
+-- Whether a sign is due.
+abbrev pub asked : Due → Bool
+asked Always = true
+asked (By mode) = is-strict mode
+
 -- Whether a sign comes next, where it is due.
 abbrev pub comes : Due → List ℕ → (at w : ℕ) → Bool
 comes Always ts at w = next-is ts at w

@@ -5,7 +5,7 @@ use tokens::Symbol;
 ghost use mathlib.Core.Path.{_≡_};
 ghost use Rattle.tokens.specs.Tokens.{word};
 ghost use Rattle.tokens.specs.declared.Token.the-variants as token;
-ghost use Rattle.words.specs.Modes.{chosen, comes};
+ghost use Rattle.words.specs.Modes.{chosen, asked, comes};
 
 // The original's rules; or strict ones, by which a call with arguments must be closed, and the bodies of while, foreach and
 // finally opened, by the right sign.
@@ -27,15 +27,25 @@ pub fn mode_of(strict: bool) -> Mode
     if strict { Mode::Strict } else { Mode::Old }
 }
 
+// Whether a sign must come next.
+fn is_due(due: Due) -> bool
+    ensures { λ r. ⌜ r ≡ asked due ⌝ }
+{
+    match due {
+        Due::Always => true,
+        Due::By(mode) => match mode {
+            Mode::Old => false,
+            Mode::Strict => true,
+        },
+    }
+}
+
 // Whether a sign comes next, where it must.
 pub fn comes(tokens: &[u16], c: Cursor, s: Symbol, due: Due) -> bool
     ensures { λ r. ⌜ r ≡ comes due (now (tokens .entry)) c (word (token.Operator s)) ⌝ }
 {
-    match due {
-        Due::Always => next_symbol_is(tokens, c, s),
-        Due::By(mode) => match mode {
-            Mode::Old => true,
-            Mode::Strict => next_symbol_is(tokens, c, s),
-        },
+    if is_due(due) {
+        return next_symbol_is(tokens, c, s);
     }
+    true
 }
