@@ -80,7 +80,7 @@ fn prefix_part(
         Token::Char => leaf(pool, first, c, CHAR, 0),
         Token::Str => leaf(pool, first, c, STRING, 0),
         Token::Keyword(k) => at_keyword(tokens, pool, first, c, k, mode, less),
-        Token::Operator(s) => at_operator(tokens, pool, first, c, s, mode, less),
+        Token::Operator(s) => at_symbol(tokens, pool, first, c, s, mode, less),
         _ => Read::Refused(INVALID_TOKEN, c),
     }
 }
@@ -110,7 +110,7 @@ fn at_keyword(
 }
 
 // The expressions that begin with an operator.
-fn at_operator(
+fn at_symbol(
     tokens: &[u16],
     pool: &mut [u32],
     first: usize,
@@ -290,7 +290,7 @@ fn entries(
 }
 
 // The first item of a list: an expression, or a pair of a hash. It has one caller, and is compiled into it.
-fn first_item(
+fn fore(
     tokens: &[u16],
     pool: &mut [u32],
     first: usize,
@@ -309,7 +309,7 @@ fn first_item(
 }
 
 // parse_list_expr; or the pairs of a hash, behind its sign.
-fn list_expr(
+fn list(
     tokens: &[u16],
     pool: &mut [u32],
     first: usize,
@@ -324,7 +324,7 @@ fn list_expr(
     if is_empty(tokens, c, paired) {
         return Read::Tree(0, 0, c);
     }
-    let r = first_item(
+    let r = fore(
         tokens,
         pool,
         first,
@@ -340,7 +340,7 @@ fn list_expr(
 }
 
 // A list and its closing sign, which comes next where it is due, or else the refusal `number`.
-pub fn closed_list(
+pub fn enclosed(
     tokens: &[u16],
     pool: &mut [u32],
     first: usize,
@@ -355,7 +355,7 @@ pub fn closed_list(
     requires { ⌜ Ready (now tokens) (now pool) first c ⌝ }
     ensures { λ r. ⌜ Fresh many (contract.closed-list due (by mode) (now (tokens .entry)) (spec.expression (by mode) (now (tokens .entry)) less) paired (word (token.Operator close)) number) (now (tokens .entry)) c first r (now (pool .entry)) (now (pool .exit)) ⌝ }
 {
-    let r = list_expr(tokens, pool, first, c, paired, mode, less);
+    let r = list(tokens, pool, first, c, paired, mode, less);
     let Read::Tree(k, h, d) = r else {
         return r;
     };
@@ -405,7 +405,7 @@ fn hash(tokens: &[u16], pool: &mut [u32], first: usize, c: Cursor, mode: Mode, l
     if words::next_symbol_is(tokens, c, Symbol::SRBrace) {
         return put_row(pool, first, 0, d, HASH, 0, c, 0, 0, 0, 0);
     }
-    let r = closed_list(
+    let r = enclosed(
         tokens,
         pool,
         first,
@@ -443,7 +443,7 @@ fn array(tokens: &[u16], pool: &mut [u32], first: usize, c: Cursor, mode: Mode, 
             0,
         );
     }
-    let r = closed_list(
+    let r = enclosed(
         tokens,
         pool,
         first,
@@ -479,7 +479,7 @@ fn lambda(
     if words::next_symbol_is(tokens, c, Symbol::SImpl) {
         return Read::Refused(NO_PARAMETERS, c);
     }
-    let r = closed_list(
+    let r = enclosed(
         tokens,
         pool,
         first,
@@ -674,7 +674,7 @@ fn infix_exp(
 }
 
 // The arguments of a call and their closing sign, which is due by the mode, behind the first `rows` rows of the part.
-fn arguments(
+fn actual(
     tokens: &[u16],
     pool: &mut [u32],
     first: usize,
@@ -687,7 +687,7 @@ fn arguments(
     ensures { λ r. ⌜ Behind many (contract.closed-list (due.By mode) (by mode) (now (tokens .entry)) (spec.expression (by mode) (now (tokens .entry)) less) false SRparen WrongSign) (now (tokens .entry)) c first rows r (now (pool .entry)) (now (pool .exit)) ⌝ }
 {
     let i = rows::end(rows as u32);
-    let r = closed_list(
+    let r = enclosed(
         tokens,
         &mut pool[i..],
         first + rows,
@@ -723,7 +723,7 @@ fn call(
         let d = words::iterate(tokens, c);
         return put_row(pool, first, rows, d, CALL, 0, c, head, 0, 0, 0);
     }
-    let r = arguments(tokens, pool, first, rows, c, mode, less);
+    let r = actual(tokens, pool, first, rows, c, mode, less);
     let Read::Tree(k, h, e) = r else {
         return r;
     };

@@ -1,6 +1,6 @@
 // The readers of statements and blocks: one cycle, each named after the original's function.
 use super::expressions::around;
-use super::expressions::closed_list;
+use super::expressions::enclosed;
 use super::expressions::expression;
 use super::names::*;
 use super::part::first_of;
@@ -256,7 +256,7 @@ fn function(
     if !words::next_symbol_is(tokens, c, Symbol::SLParen) {
         return Read::Refused(INVALID_SYNTAX, c);
     }
-    let r = closed_list(
+    let r = enclosed(
         tokens,
         pool,
         first,

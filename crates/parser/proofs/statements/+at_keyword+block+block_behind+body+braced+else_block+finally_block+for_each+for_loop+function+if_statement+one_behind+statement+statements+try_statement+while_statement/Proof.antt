@@ -25,7 +25,7 @@ use Rattle.parser.proofs.statements.block_behind.Reads as block-behind-
 use Rattle.parser.proofs.statements.block.Reads as block-reads
 use Rattle.parser.proofs.statements.body.Reads as body-reads
 use Rattle.parser.proofs.statements.braced.Reads as braced-reads
-use Rattle.parser.proofs.expressions.closed_list.Reads as closed-list-reads
+use Rattle.parser.proofs.expressions.enclosed.Reads as enclosed-reads
 use Rattle.words.proofs.comes.Reads as comes-reads
 use Rattle.parser.proofs.simple.const_statement.Reads as const-statement-reads
 use Rattle.words.proofs.current_is.Reads as current-is-reads
@@ -277,13 +277,13 @@ pub +at-keyword+block+block-behind+body+braced+else-block+finally-block+for-each
     (for-loop-needs.put-row-requires t)
     (for-loop-needs.same-length-4 t)
     (for-loop-needs.returns-4 t))
-    (λ t. function-lts.spec (is-identifier-reads.Asked, is-identifier-reads.Learnt, next-symbol-is-reads.Asked, next-symbol-is-reads.Learnt, iterate-reads.Asked, iterate-reads.Learnt, closed-list-reads.Asked, closed-list-reads.Learnt, braced-below t, braced-reads.Post, put-row-reads.Asked, put-row-reads.Learnt) (function-at t) function-reads.Post
+    (λ t. function-lts.spec (is-identifier-reads.Asked, is-identifier-reads.Learnt, next-symbol-is-reads.Asked, next-symbol-is-reads.Learnt, iterate-reads.Asked, iterate-reads.Learnt, enclosed-reads.Asked, enclosed-reads.Learnt, braced-below t, braced-reads.Post, put-row-reads.Asked, put-row-reads.Learnt) (function-at t) function-reads.Post
     (function-needs.is-identifier-requires t)
     (function-needs.returns t)
     (function-needs.next-symbol-is-requires t)
     (function-needs.returns-2 t)
     (function-needs.iterate-requires t)
-    (function-needs.closed-list-requires t)
+    (function-needs.enclosed-requires t)
     (function-needs.enum-known-r t)
     (function-needs.enum-told t)
     (function-needs.same-length t)

@@ -21,7 +21,7 @@ use Rattle.parser.proofs.Bodies.{closed-then, braced-then}
 use Rattle.parser.proofs.Moves.{falls, fits-same, front-le, le-trans, on-step, ready-same, ready-step, small}
 use borrow.Author.Needs.{needs}
 use Rattle.parser.proofs.statements.braced.Reads as braced-reads
-use Rattle.parser.proofs.expressions.closed_list.Reads as closed-list-reads
+use Rattle.parser.proofs.expressions.enclosed.Reads as enclosed-reads
 use Rattle.parser.proofs.statements.function.Reads as function-reads
 use Rattle.words.proofs.is_identifier.Reads as is-identifier-reads
 use Rattle.words.proofs.iterate.Reads as iterate-reads
@@ -53,10 +53,10 @@ module _ (rules : Rules) (ts : List ℕ) (expr : Rec) (stmt : Reader Trees) (nam
 
 module _ (t : ℕ) where
   abbrev cs : lts.Claims
-  cs = (is-identifier-reads.Asked, is-identifier-reads.Learnt, next-symbol-is-reads.Asked, next-symbol-is-reads.Learnt, iterate-reads.Asked, iterate-reads.Learnt, closed-list-reads.Asked, closed-list-reads.Learnt, braced-below t, braced-reads.Post, put-row-reads.Asked, put-row-reads.Learnt)
+  cs = (is-identifier-reads.Asked, is-identifier-reads.Learnt, next-symbol-is-reads.Asked, next-symbol-is-reads.Learnt, iterate-reads.Asked, iterate-reads.Learnt, enclosed-reads.Asked, enclosed-reads.Learnt, braced-below t, braced-reads.Post, put-row-reads.Asked, put-row-reads.Learnt)
 
-  read-1 : (c : lts.After-r cs (function-at t) function-reads.Post) → TakenOf (c .before .before .before .before .closed-list .ensures) (c .r .given .1)
-  read-1 c = taken (c .before .before .before .before .closed-list .ensures) (c .r .given .1)
+  read-1 : (c : lts.After-r cs (function-at t) function-reads.Post) → TakenOf (c .before .before .before .before .enclosed .ensures) (c .r .given .1)
+  read-1 c = taken (c .before .before .before .before .enclosed .ensures) (c .r .given .1)
 
   read-2 : (c : lts.After-q cs (function-at t) function-reads.Post) → TakenOf (c .before .before .before .before .braced .ensures .1 _ _ _ _ (read-1 (c .before .before .before .before .before .before .before) .stands)) (c .q .given .1)
   read-2 c = taken (c .before .before .before .before .braced .ensures .1 _ _ _ _ (read-1 (c .before .before .before .before .before .before .before) .stands)) (c .q .given .1)
@@ -78,8 +78,8 @@ module _ (t : ℕ) where
   pub iterate-requires : lts.Need-iterate-requires cs (function-at t) function-reads.Post
   iterate-requires c κs = search needs
 
-  pub closed-list-requires : lts.Need-closed-list-requires cs (function-at t) function-reads.Post
-  closed-list-requires c κs = ready-step _ _ (c .iterate .ensures) (c .before .before .before .before .before .before .before .before .pre .1)
+  pub enclosed-requires : lts.Need-enclosed-requires cs (function-at t) function-reads.Post
+  enclosed-requires c κs = ready-step _ _ (c .iterate .ensures) (c .before .before .before .before .before .before .before .before .pre .1)
 
   pub enum-known-r : lts.Need-enum-known-r cs (function-at t) function-reads.Post
   enum-known-r c = c .match .keys1
@@ -88,14 +88,14 @@ module _ (t : ℕ) where
   enum-told c = c .match .keys2
 
   pub same-length : lts.Need-same-length cs (function-at t) function-reads.Post
-  same-length c = c .before .before .before .before .closed-list .kept .1 .0
+  same-length c = c .before .before .before .before .enclosed .kept .1 .0
 
   pub returns-3 : lts.Need-returns-3 cs (function-at t) function-reads.Post
-  returns-3 c = pass-on (first (by (c .before .before .before .before .before .before .before .before .before .before .before .before .before .args .mode)) (c .before .before .before .before .before .before .before .before .before .before .before .before .before .args .tokens .now) (expression (by (c .before .before .before .before .before .before .before .before .before .before .before .before .before .args .mode)) (c .before .before .before .before .before .before .before .before .before .before .before .before .before .args .tokens .now) (c .before .before .before .before .before .before .before .before .before .before .before .before .before .args .less)) (statement (by (c .before .before .before .before .before .before .before .before .before .before .before .before .before .args .mode)) (c .before .before .before .before .before .before .before .before .before .before .before .before .before .args .tokens .now) (c .before .before .before .before .before .before .before .before .before .before .before .before .before .args .less)) _ _ (sym (c .before .before .before .before .before .before .before .before .before .before .is-identifier .ensures) ∙ not-false _ (c .before .before .before .before .before .before .before .before .before .if1 .left)) (sym (c .before .before .before .before .before .before .before .before .next-symbol-is .ensures) ∙ not-false _ (c .before .before .before .before .before .before .before .if2 .left)) (c .before .before .before .before .before .iterate .ensures)) (c .before .before .before .before .closed-list .ensures) (c .enum-told .given .1)
+  returns-3 c = pass-on (first (by (c .before .before .before .before .before .before .before .before .before .before .before .before .before .args .mode)) (c .before .before .before .before .before .before .before .before .before .before .before .before .before .args .tokens .now) (expression (by (c .before .before .before .before .before .before .before .before .before .before .before .before .before .args .mode)) (c .before .before .before .before .before .before .before .before .before .before .before .before .before .args .tokens .now) (c .before .before .before .before .before .before .before .before .before .before .before .before .before .args .less)) (statement (by (c .before .before .before .before .before .before .before .before .before .before .before .before .before .args .mode)) (c .before .before .before .before .before .before .before .before .before .before .before .before .before .args .tokens .now) (c .before .before .before .before .before .before .before .before .before .before .before .before .before .args .less)) _ _ (sym (c .before .before .before .before .before .before .before .before .before .before .is-identifier .ensures) ∙ not-false _ (c .before .before .before .before .before .before .before .before .before .if1 .left)) (sym (c .before .before .before .before .before .before .before .before .next-symbol-is .ensures) ∙ not-false _ (c .before .before .before .before .before .before .before .if2 .left)) (c .before .before .before .before .before .iterate .ensures)) (c .before .before .before .before .enclosed .ensures) (c .enum-told .given .1)
 
   pub braced-requires : lts.Need-braced-requires cs (function-at t) function-reads.Post
   braced-requires c κs =
-      (falls _ _ _ _ _ _ _ (c .before .before .before .before .before .before .before .before .before .before .before .before .before .before .before .pre .0) (le-trans (on-step _ _ (c .before .before .before .before .before .before .before .iterate .ensures)) (read-1 (c .before .before) .stands .on)) (lit< tt), (ready-same (c .before .before .before .before .before .before .before .before .before .before .before .before .before .before .before .pre .1) (c .before .before .before .before .before .before .closed-list .kept .1 .0) (read-1 (c .before .before) .stands .within), front-le (read-1 (c .before .before) .stands .front)))
+      (falls _ _ _ _ _ _ _ (c .before .before .before .before .before .before .before .before .before .before .before .before .before .before .before .pre .0) (le-trans (on-step _ _ (c .before .before .before .before .before .before .before .iterate .ensures)) (read-1 (c .before .before) .stands .on)) (lit< tt), (ready-same (c .before .before .before .before .before .before .before .before .before .before .before .before .before .before .before .pre .1) (c .before .before .before .before .before .before .enclosed .kept .1 .0) (read-1 (c .before .before) .stands .within), front-le (read-1 (c .before .before) .stands .front)))
 
   pub enum-known-q : lts.Need-enum-known-q cs (function-at t) function-reads.Post
   enum-known-q c = c .match2 .keys1
@@ -104,16 +104,16 @@ module _ (t : ℕ) where
   enum-told-2 c = c .match2 .keys2
 
   pub same-length-2 : lts.Need-same-length-2 cs (function-at t) function-reads.Post
-  same-length-2 c = c .before .before .before .before .braced .kept .1 .0 ∙ c .before .before .before .before .before .before .before .before .before .before .before .closed-list .kept .1 .0
+  same-length-2 c = c .before .before .before .before .braced .kept .1 .0 ∙ c .before .before .before .before .before .before .before .before .before .before .before .enclosed .kept .1 .0
 
   pub returns-4 : lts.Need-returns-4 cs (function-at t) function-reads.Post
   returns-4 c = pass-on (second (by (c .before .before .before .before .before .before .before .before .before .before .before .before .before .before .before .before .before .before .before .before .args .mode)) (c .before .before .before .before .before .before .before .before .before .before .before .before .before .before .before .before .before .before .before .before .args .tokens .now) (expression (by (c .before .before .before .before .before .before .before .before .before .before .before .before .before .before .before .before .before .before .before .before .args .mode)) (c .before .before .before .before .before .before .before .before .before .before .before .before .before .before .before .before .before .before .before .before .args .tokens .now) (c .before .before .before .before .before .before .before .before .before .before .before .before .before .before .before .before .before .before .before .before .args .less)) (statement (by (c .before .before .before .before .before .before .before .before .before .before .before .before .before .before .before .before .before .before .before .before .args .mode)) (c .before .before .before .before .before .before .before .before .before .before .before .before .before .before .before .before .before .before .before .before .args .tokens .now) (c .before .before .before .before .before .before .before .before .before .before .before .before .before .before .before .before .before .before .before .before .args .less)) _ _ (sym (c .before .before .before .before .before .before .before .before .before .before .before .before .before .before .before .before .before .is-identifier .ensures) ∙ not-false _ (c .before .before .before .before .before .before .before .before .before .before .before .before .before .before .before .before .if1 .left)) (sym (c .before .before .before .before .before .before .before .before .before .before .before .before .before .before .before .next-symbol-is .ensures) ∙ not-false _ (c .before .before .before .before .before .before .before .before .before .before .before .before .before .before .if2 .left)) (c .before .before .before .before .before .before .before .before .before .before .before .before .iterate .ensures) (read-1 (c .before .before .before .before .before .before .before) .eq)) (c .before .before .before .before .braced .ensures .1 _ _ _ _ (read-1 (c .before .before .before .before .before .before .before) .stands)) (c .enum-told2 .given .1)
 
   pub put-row-requires : lts.Need-put-row-requires cs (function-at t) function-reads.Post
-  put-row-requires c κs = (fits-same _ _ _ (c .before .before .before .before .before .before .before .before .before .before .before .before .before .before .before .before .before .before .before .before .before .before .pre .1 .fits) (c .before .before .before .before .before .before .braced .kept .1 .0 ∙ c .before .before .before .before .before .before .before .before .before .before .before .before .before .closed-list .kept .1 .0), small (c .before .before .before .before .before .before .before .before .before .before .before .before .before .before .before .before .before .before .before .before .before .before .pre .1))
+  put-row-requires c κs = (fits-same _ _ _ (c .before .before .before .before .before .before .before .before .before .before .before .before .before .before .before .before .before .before .before .before .before .before .pre .1 .fits) (c .before .before .before .before .before .before .braced .kept .1 .0 ∙ c .before .before .before .before .before .before .before .before .before .before .before .before .before .enclosed .kept .1 .0), small (c .before .before .before .before .before .before .before .before .before .before .before .before .before .before .before .before .before .before .before .before .before .before .pre .1))
 
   pub same-length-3 : lts.Need-same-length-3 cs (function-at t) function-reads.Post
-  same-length-3 c = c .before .before .put-row .kept .0 ∙ c .before .before .before .before .before .before .before .before .before .braced .kept .1 .0 ∙ c .before .before .before .before .before .before .before .before .before .before .before .before .before .before .before .before .closed-list .kept .1 .0
+  same-length-3 c = c .before .before .put-row .kept .0 ∙ c .before .before .before .before .before .before .before .before .before .braced .kept .1 .0 ∙ c .before .before .before .before .before .before .before .before .before .before .before .before .before .before .before .before .enclosed .kept .1 .0
 
   pub returns-5 : lts.Need-returns-5 cs (function-at t) function-reads.Post
   returns-5 c =
