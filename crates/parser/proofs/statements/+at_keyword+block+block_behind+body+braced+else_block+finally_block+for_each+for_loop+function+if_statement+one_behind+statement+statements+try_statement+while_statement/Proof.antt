@@ -25,13 +25,13 @@ use Rattle.parser.proofs.statements.block_behind.Reads as block-behind-
 use Rattle.parser.proofs.statements.block.Reads as block-reads
 use Rattle.parser.proofs.statements.body.Reads as body-reads
 use Rattle.parser.proofs.statements.braced.Reads as braced-reads
-use Rattle.parser.proofs.expressions.enclosed.Reads as enclosed-reads
 use Rattle.words.proofs.comes.Reads as comes-reads
 use Rattle.parser.proofs.simple.const_statement.Reads as const-statement-reads
 use Rattle.words.proofs.current_is.Reads as current-is-reads
 use Rattle.words.proofs.current.Reads as current-reads
 use Rattle.words.proofs.current_symbol_is.Reads as current-symbol-is-reads
 use Rattle.parser.proofs.statements.else_block.Reads as else-block-reads
+use Rattle.parser.proofs.expressions.enclosed.Reads as enclosed-reads
 use Rattle.rows.proofs.end.Reads as end-reads
 use Rattle.parser.proofs.expressions.expression.Reads as expression-reads
 use Rattle.parser.proofs.statements.finally_block.Reads as finally-block-reads
