@@ -7,6 +7,7 @@ mod Loops
 mod Moves
 mod Matches
 mod Bodies
+mod Shared
 mod Ends
 mod Lists
 mod Wholes

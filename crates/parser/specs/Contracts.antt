@@ -1,15 +1,16 @@
 -- The contracts of the readers, by what stands in their part when they begin.
 use Prim.Native.Nat.{ℕ, _+_, _/_}
 use mathlib.Core.Path.{_≡_}
-use mathlib.Core.Bool.{Bool, true, false, _||_}
+use mathlib.Core.Bool.{Bool, true, false, not, _||_}
 use mathlib.Core.List.{List, [], _∷_, _++_}
 use lib.ListN.{length}
 use lib.Dec.{eqb}
-use Rattle.grammar.specs.Words.{EOF, SLBrace, KIf, KWhile, KFor, KConst, KVar, KFunc, KTry, KThrow, KForEach, KAssert, Zero, tok, step, next-is}
+use Rattle.grammar.specs.Words.{EOF, Identifier, SLBrace, SSemiColon, KIf, KWhile, KFor, KConst, KVar, KFunc, KTry, KThrow, KForEach, KAssert, Zero, tok, step, is, next-is}
 use Rattle.grammar.specs.Tree.{Tree, node, Trees, nil, _▸_, size, head-ref, width}
-use Rattle.grammar.specs.Parsed.{read, Reader, _>>=_, _>>_, need, build, turns}
+use Rattle.grammar.specs.Parsed.{read, Reader, _>>=_, _>>_, need, choose, build, turns, InvalidIdentifier, ConstWithoutValue}
 use Rattle.grammar.specs.Rules.{Rules}
 use Rattle.grammar.specs.Expressions.{Rec, entries, list-expr, pair}
+use Rattle.grammar.specs.Statements.{value}
 use Rattle.words.specs.declared.modes.Due.{Due}
 use Rattle.words.specs.Modes.{comes}
 use Rattle.answer.specs.declared.Read.{Read}
@@ -90,11 +91,29 @@ braced due ts block number at room = do
   need (comes due ts at SLBrace) number at
   block at room
 
+-- A keyword that comes next and its block, or none.
+unfoldable pub clause : (due : Due) (ts : List ℕ) (block : Reader Tree) (keyword number : ℕ) → Reader Trees
+clause due ts block keyword number at room = choose (next-is ts at keyword)
+    (λ _. do
+      (t, at, room) ← braced due ts block number (step ts at) room
+      read (t ▸ nil) at room)
+    (λ _. read nil at room)
+
 -- A sign that comes next, and behind it an opening brace, where it is due, and the block.
 unfoldable pub body : (due : Due) (ts : List ℕ) (block : Reader Tree) (sign missing bare : ℕ) → Reader Tree
 body due ts block sign missing bare at room = do
   need (next-is ts at sign) missing at
   braced due ts block bare (step ts at) room
+
+-- A name and its value; or a name alone, but not for const.
+unfoldable pub var-or-const : (rules : Rules) (ts : List ℕ) (expr : Rec) (stmt : Reader Trees) (kind : ℕ) → Reader Tree
+var-or-const rules ts expr stmt kind name room = do
+  need (is ts name Identifier) InvalidIdentifier name
+  choose (next-is ts name SSemiColon)
+      (λ _. do
+        need (not (eqb kind 35)) ConstWithoutValue (step ts name)
+        build (node kind 0 name nil nil nil nil) (step ts name) room)
+      (λ _. value rules ts expr stmt (λ v. node kind 0 name v nil nil nil) (step ts name) room)
 
 -- The keywords of statements that may not end right behind them.
 unfoldable pub further : ℕ → Bool

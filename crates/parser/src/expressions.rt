@@ -289,25 +289,6 @@ fn entries(
     Read::Tree(k, h, d)
 }
 
-// The first item of a list: an expression, or a pair of a hash. It has one caller, and is compiled into it.
-fn fore(
-    tokens: &[u16],
-    pool: &mut [u32],
-    first: usize,
-    c: Cursor,
-    paired: bool,
-    mode: Mode,
-    less: usize,
-) -> Read
-    requires { ⌜ Ready (now tokens) (now pool) first c ⌝ }
-    ensures { λ r. ⌜ Fresh one (contract.item (by mode) (now (tokens .entry)) (spec.expression (by mode) (now (tokens .entry)) less) 0 paired) (now (tokens .entry)) c first r (now (pool .entry)) (now (pool .exit)) ⌝ }
-{
-    if paired {
-        return pair(tokens, pool, first, c, mode, less);
-    }
-    expression(tokens, pool, first, c, 0, mode, less)
-}
-
 // parse_list_expr; or the pairs of a hash, behind its sign.
 fn list(
     tokens: &[u16],
@@ -324,11 +305,13 @@ fn list(
     if is_empty(tokens, c, paired) {
         return Read::Tree(0, 0, c);
     }
-    let r = fore(
+    let r = behind(
         tokens,
         pool,
         first,
+        0,
         words::iterate(tokens, c),
+        0,
         paired,
         mode,
         less,

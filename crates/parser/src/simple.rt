@@ -147,59 +147,30 @@ fn value(
     )
 }
 
-// parse_var_or_const for var, at the name.
-pub fn var_statement(
+// parse_var_or_const, by the kind of its row, at the name.
+pub fn var_or_const(
     tokens: &[u16],
     pool: &mut [u32],
     first: usize,
     c: Cursor,
+    kind: u32,
     mode: Mode,
     less: usize,
 ) -> Read
     requires { ⌜ Ready (now tokens) (now pool) first c ⌝ }
-    ensures { λ r. ⌜ Fresh one (spec.var (by mode) (now (tokens .entry)) (expression (by mode) (now (tokens .entry)) less) (spec.statement (by mode) (now (tokens .entry)) less)) (now (tokens .entry)) c first r (now (pool .entry)) (now (pool .exit)) ⌝ }
-{
-    if !words::is_identifier(tokens, c) {
-        return Read::Refused(INVALID_IDENTIFIER, c);
-    }
-    if words::next_symbol_is(tokens, c, Symbol::SSemiColon) {
-        return put_row(
-            pool,
-            first,
-            0,
-            words::iterate(tokens, c),
-            VAR,
-            0,
-            c,
-            0,
-            0,
-            0,
-            0,
-        );
-    }
-    value(tokens, pool, first, c, VAR, mode, less)
-}
-
-// parse_var_or_const for const, at the name.
-pub fn const_statement(
-    tokens: &[u16],
-    pool: &mut [u32],
-    first: usize,
-    c: Cursor,
-    mode: Mode,
-    less: usize,
-) -> Read
-    requires { ⌜ Ready (now tokens) (now pool) first c ⌝ }
-    ensures { λ r. ⌜ Fresh one (spec.const (by mode) (now (tokens .entry)) (expression (by mode) (now (tokens .entry)) less) (spec.statement (by mode) (now (tokens .entry)) less)) (now (tokens .entry)) c first r (now (pool .entry)) (now (pool .exit)) ⌝ }
+    ensures { λ r. ⌜ Fresh one (contract.var-or-const (by mode) (now (tokens .entry)) (expression (by mode) (now (tokens .entry)) less) (spec.statement (by mode) (now (tokens .entry)) less) kind) (now (tokens .entry)) c first r (now (pool .entry)) (now (pool .exit)) ⌝ }
 {
     if !words::is_identifier(tokens, c) {
         return Read::Refused(INVALID_IDENTIFIER, c);
     }
     if words::next_symbol_is(tokens, c, Symbol::SSemiColon) {
         let d = words::iterate(tokens, c);
-        return Read::Refused(CONST_WITHOUT_VALUE, d);
+        if kind == CONST {
+            return Read::Refused(CONST_WITHOUT_VALUE, d);
+        }
+        return put_row(pool, first, 0, d, kind, 0, c, 0, 0, 0, 0);
     }
-    value(tokens, pool, first, c, CONST, mode, less)
+    value(tokens, pool, first, c, kind, mode, less)
 }
 
 // parse_return_statement

@@ -8,9 +8,8 @@ use super::part::put_row;
 use super::simple::alone;
 use super::simple::assert_statement;
 use super::simple::behind_sign;
-use super::simple::const_statement;
 use super::simple::return_statement;
-use super::simple::var_statement;
+use super::simple::var_or_const;
 use answer::Read;
 use tokens::Keyword;
 use tokens::Symbol;
@@ -98,8 +97,8 @@ fn at_keyword(
     match k {
         Keyword::KBreak => alone(tokens, pool, first, c, BREAK, BREAK_WITHOUT_SEMICOLON),
         Keyword::KContinue => alone(tokens, pool, first, c, CONTINUE, CONTINUE_WITHOUT_SEMICOLON),
-        Keyword::KVar => var_statement(tokens, pool, first, d, mode, less),
-        Keyword::KConst => const_statement(tokens, pool, first, d, mode, less),
+        Keyword::KVar => var_or_const(tokens, pool, first, d, VAR, mode, less),
+        Keyword::KConst => var_or_const(tokens, pool, first, d, CONST, mode, less),
         Keyword::KIf => if_statement(tokens, pool, first, c, mode, less),
         Keyword::KAssert => assert_statement(tokens, pool, first, c, mode, less),
         Keyword::KWhile => while_statement(tokens, pool, first, c, mode, less),
@@ -333,41 +332,45 @@ fn if_statement(
     let Read::Tree(k1, h1, e1) = r1 else {
         return r1;
     };
-    let r2 = else_block(tokens, pool, first, k1, e1, mode, less);
+    let r2 = clause(
+        tokens,
+        pool,
+        first,
+        k1,
+        e1,
+        Keyword::KElse,
+        Due::Always,
+        INVALID_SYNTAX,
+        mode,
+        less,
+    );
     let Read::Tree(k2, h2, e2) = r2 else {
         return r2;
     };
     put_row(pool, first, k2, e2, IF, 0, c, h0, h1, h2, 0)
 }
 
-// The end of parse_if_statement: the block of an else, or none.
-fn else_block(
+// The ends of parse_if_statement and of parse_try_statement: the block of a keyword that comes next, or none.
+fn clause(
     tokens: &[u16],
     pool: &mut [u32],
     first: usize,
     rows: usize,
     c: Cursor,
+    k: Keyword,
+    due: Due,
+    number: u32,
     mode: Mode,
     less: usize,
 ) -> Read
     requires { ⌜ (Ready (now tokens) (now pool) first c) × (width * rows ≤ length (now pool)) ⌝ }
-    ensures { λ r. ⌜ Behind many (spec.else (by mode) (now (tokens .entry)) (expression (by mode) (now (tokens .entry)) less) (spec.statement (by mode) (now (tokens .entry)) less)) (now (tokens .entry)) c first rows r (now (pool .entry)) (now (pool .exit)) ⌝ }
+    ensures { λ r. ⌜ Behind many (contract.clause due (now (tokens .entry)) (spec.block (by mode) (now (tokens .entry)) (expression (by mode) (now (tokens .entry)) less) (spec.statement (by mode) (now (tokens .entry)) less)) (word (token.Keyword k)) number) (now (tokens .entry)) c first rows r (now (pool .entry)) (now (pool .exit)) ⌝ }
 {
-    if !words::next_keyword_is(tokens, c, Keyword::KElse) {
+    if !words::next_keyword_is(tokens, c, k) {
         return Read::Tree(rows, 0, c);
     }
     let d = words::iterate(tokens, c);
-    braced(
-        tokens,
-        pool,
-        first,
-        rows,
-        d,
-        Due::Always,
-        INVALID_SYNTAX,
-        mode,
-        less,
-    )
+    braced(tokens, pool, first, rows, d, due, number, mode, less)
 }
 
 // parse_while_statement
@@ -542,36 +545,6 @@ fn for_loop(
     put_row(pool, first, k2, e2, FOR, 0, c, h0, h1, h2, 0)
 }
 
-// The end of parse_try_statement: the block of a finally, or none.
-fn finally_block(
-    tokens: &[u16],
-    pool: &mut [u32],
-    first: usize,
-    rows: usize,
-    c: Cursor,
-    mode: Mode,
-    less: usize,
-) -> Read
-    requires { ⌜ (Ready (now tokens) (now pool) first c) × (width * rows ≤ length (now pool)) ⌝ }
-    ensures { λ r. ⌜ Behind many (spec.finally (by mode) (now (tokens .entry)) (expression (by mode) (now (tokens .entry)) less) (spec.statement (by mode) (now (tokens .entry)) less)) (now (tokens .entry)) c first rows r (now (pool .entry)) (now (pool .exit)) ⌝ }
-{
-    if !words::next_keyword_is(tokens, c, Keyword::KFinally) {
-        return Read::Tree(rows, 0, c);
-    }
-    let d = words::iterate(tokens, c);
-    braced(
-        tokens,
-        pool,
-        first,
-        rows,
-        d,
-        Due::By(mode),
-        WRONG_SIGN,
-        mode,
-        less,
-    )
-}
-
 // An opening brace that comes next, where it is due, or else the refusal `number`; and its block, behind the first `rows` rows of the part.
 fn braced(
     tokens: &[u16],
@@ -648,7 +621,18 @@ fn try_statement(
     let Read::Tree(k2, h2, e2) = r2 else {
         return r2;
     };
-    let r3 = finally_block(tokens, pool, first, k2, e2, mode, less);
+    let r3 = clause(
+        tokens,
+        pool,
+        first,
+        k2,
+        e2,
+        Keyword::KFinally,
+        Due::By(mode),
+        WRONG_SIGN,
+        mode,
+        less,
+    );
     let Read::Tree(k3, h3, e3) = r3 else {
         return r3;
     };
