@@ -2,7 +2,7 @@
 ghost use mathlib.Core.Path.{_≡_};
 ghost use lib.ListN.{length};
 ghost use Rattle.grammar.specs.Script as spec;
-ghost use Rattle.words.specs.Modes.{by, chosen};
+ghost use Rattle.modes.specs.Modes.{by, chosen};
 ghost use Rattle.answer.specs.Answer.{answered, numbers};
 ghost use Rattle.files.specs.Entry.{file-answer, file-buffer};
 ghost use Rattle.text.specs.Entries.{fold-answer, fold-buffer};
@@ -20,7 +20,7 @@ pub extern "C" fn shigthapul_one_expression(
     ensures answer { λ _. ⌜ now (answer .exit) ≡ over (numbers (answered (spec.one-expression (by (chosen strict)) (now (tokens .entry)) start (spec.rows (length (now (pool .entry))))))) (now (answer .entry)) ⌝ }
     ensures pool { λ _. ⌜ now (pool .exit) ≡ spec.pool (length (now (pool .entry))) (spec.one-expression (by (chosen strict)) (now (tokens .entry)) start (spec.rows (length (now (pool .entry))))) ⌝ }
 {
-    let outcome = parser::one_expression(tokens, pool, start, words::mode_of(strict));
+    let outcome = parser::one_expression(tokens, pool, start, modes::mode_of(strict));
     four::put_answer(answer, outcome);
 }
 
@@ -36,7 +36,7 @@ pub extern "C" fn shigthapul_one_statement(
     ensures answer { λ _. ⌜ now (answer .exit) ≡ over (numbers (answered (spec.one-statement (by (chosen strict)) (now (tokens .entry)) start (spec.rows (length (now (pool .entry))))))) (now (answer .entry)) ⌝ }
     ensures pool { λ _. ⌜ now (pool .exit) ≡ spec.pool (length (now (pool .entry))) (spec.one-statement (by (chosen strict)) (now (tokens .entry)) start (spec.rows (length (now (pool .entry))))) ⌝ }
 {
-    let outcome = parser::one_statement(tokens, pool, start, words::mode_of(strict));
+    let outcome = parser::one_statement(tokens, pool, start, modes::mode_of(strict));
     four::put_answer(answer, outcome);
 }
 
@@ -51,7 +51,7 @@ pub extern "C" fn shigthapul_whole_script(
     ensures answer { λ _. ⌜ now (answer .exit) ≡ over (numbers (answered (spec.whole-script (by (chosen strict)) (now (tokens .entry)) (spec.rows (length (now (pool .entry))))))) (now (answer .entry)) ⌝ }
     ensures pool { λ _. ⌜ now (pool .exit) ≡ spec.pool (length (now (pool .entry))) (spec.whole-script (by (chosen strict)) (now (tokens .entry)) (spec.rows (length (now (pool .entry))))) ⌝ }
 {
-    let outcome = parser::whole_script(tokens, pool, words::mode_of(strict));
+    let outcome = parser::whole_script(tokens, pool, modes::mode_of(strict));
     four::put_answer(answer, outcome);
 }
 

@@ -8,8 +8,8 @@ use Rattle.grammar.specs.Tree.{Tree, Trees}
 use Rattle.grammar.specs.Parsed.{Parsed, refused, read, Reader, _>>=_, _>>_, need}
 use Rattle.grammar.specs.Rules.{Rules}
 use Rattle.grammar.specs.Expressions.{Rec}
-use Rattle.words.specs.declared.modes.Due.{Due}
-use Rattle.words.specs.Modes.{comes}
+use Rattle.modes.specs.declared.Due.{Due}
+use Rattle.modes.specs.Modes.{comes}
 use Rattle.parser.proofs.Lists.{checked-then}
 use Rattle.parser.specs.Contracts.{behind-sign, body, braced, items, closed-list}
 

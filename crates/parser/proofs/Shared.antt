@@ -10,10 +10,10 @@ use Rattle.grammar.specs.Parsed.{Parsed, read, Reader, _>>=_, _>>_, need, choos
 use Rattle.grammar.specs.Rules.{Rules}
 use Rattle.grammar.specs.Expressions.{Rec}
 use Rattle.grammar.specs.Statements.{var, const, value, block, else, finally}
-use Rattle.words.specs.declared.modes.Mode.{Mode}
-use Rattle.words.specs.declared.modes.Due.{Due}
-use Rattle.words.specs.declared.modes.Due.the-variants.{Always, By}
-use Rattle.words.specs.Modes.{by, comes}
+use Rattle.modes.specs.declared.Mode.{Mode}
+use Rattle.modes.specs.declared.Due.{Due}
+use Rattle.modes.specs.declared.Due.the-variants.{Always, By}
+use Rattle.modes.specs.Modes.{by, comes}
 use Rattle.parser.specs.Contracts.{braced, clause, var-or-const}
 use Rattle.parser.proofs.Bodies.{braced-then}
 

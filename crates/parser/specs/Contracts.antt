@@ -11,8 +11,8 @@ use Rattle.grammar.specs.Parsed.{read, Reader, _>>=_, _>>_, need, choose, build
 use Rattle.grammar.specs.Rules.{Rules}
 use Rattle.grammar.specs.Expressions.{Rec, entries, list-expr, pair}
 use Rattle.grammar.specs.Statements.{value}
-use Rattle.words.specs.declared.modes.Due.{Due}
-use Rattle.words.specs.Modes.{comes}
+use Rattle.modes.specs.declared.Due.{Due}
+use Rattle.modes.specs.Modes.{comes}
 use Rattle.answer.specs.declared.Read.{Read}
 use Rattle.answer.specs.declared.Read.the-variants as the
 use Rattle.parser.specs.Meets.{Stands, Meets, one, many, Ending, Bounded, after}

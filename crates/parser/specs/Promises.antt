@@ -9,8 +9,8 @@ use Rattle.grammar.specs.Parsed.{Parsed, read, NoRow, WrongSign}
 use Rattle.grammar.specs.Rules.{Rules}
 use Rattle.grammar.specs.Script.{one-expression, one-statement, whole-script, largest, rows, answer}
 use Rattle.grammar.specs.Claims.{Grouping, Part, RowsRuled, tokens-from, expression-rows, statement-rows, script-rows}
-use Rattle.words.specs.declared.modes.Mode.the-variants.{Old, Strict}
-use Rattle.words.specs.Modes.{by}
+use Rattle.modes.specs.declared.Mode.the-variants.{Old, Strict}
+use Rattle.modes.specs.Modes.{by}
 use Rattle.answer.specs.declared.Answer.{Answer}
 use Rattle.answer.specs.declared.Answer.the-variants.{Accepted, Refused}
 use Rattle.parser.specs.Entries.{Entered}

@@ -8,13 +8,13 @@ use super::part::leaf;
 use super::part::passed;
 use super::part::put_row;
 use answer::Read;
+use modes::Due;
+use modes::Mode;
 use rows::Flag;
 use tokens::Keyword;
 use tokens::Symbol;
 use tokens::Token;
 use words::Cursor;
-use words::Due;
-use words::Mode;
 ghost use mathlib.Core.Path.{_≡_};
 ghost use mathlib.Core.Bool.{true, false};
 ghost use Prim.Native.Nat.{_*_, _≤_, _<_};
@@ -26,8 +26,8 @@ ghost use Rattle.grammar.specs.Expressions as spec;
 ghost use Rattle.tokens.specs.Tokens.{word};
 ghost use Rattle.tokens.specs.declared.Token.the-variants as token;
 ghost use Rattle.rows.specs.Rows.{bit};
-ghost use Rattle.words.specs.declared.modes.Due.the-variants as due;
-ghost use Rattle.words.specs.Modes.{by};
+ghost use Rattle.modes.specs.declared.Due.the-variants as due;
+ghost use Rattle.modes.specs.Modes.{by};
 ghost use Rattle.parser.specs.Meets.{Ready, one, many};
 ghost use Rattle.parser.specs.Contracts.{Fresh, Behind, Follows, Extends};
 ghost use Rattle.parser.specs.Contracts as contract;
@@ -170,17 +170,8 @@ fn prefix(
     requires { ⌜ Ready (now tokens) (now pool) first c ⌝ }
     ensures { λ r. ⌜ Fresh one (spec.prefix (by mode) (now (tokens .entry)) (spec.expression (by mode) (now (tokens .entry)) less) mark) (now (tokens .entry)) c first r (now (pool .entry)) (now (pool .exit)) ⌝ }
 {
-    around(
-        tokens,
-        pool,
-        first,
-        words::iterate(tokens, c),
-        PREFIX,
-        mark,
-        c,
-        mode,
-        less,
-    )
+    let d = words::iterate(tokens, c);
+    around(tokens, pool, first, d, PREFIX, mark, c, mode, less)
 }
 
 // parse_shell_expression
@@ -190,17 +181,8 @@ fn shell(tokens: &[u16], pool: &mut [u32], first: usize, c: Cursor, mode: Mode, 
 {
     let d = words::iterate(tokens, c);
     if words::next_symbol_is(tokens, c, Symbol::SDot) {
-        return around(
-            tokens,
-            pool,
-            first,
-            words::iterate(tokens, d),
-            SHELL,
-            1,
-            c,
-            mode,
-            less,
-        );
+        let e = words::iterate(tokens, d);
+        return around(tokens, pool, first, e, SHELL, 1, c, mode, less);
     }
     around(tokens, pool, first, d, SHELL, 0, c, mode, less)
 }
@@ -305,17 +287,8 @@ fn list(
     if is_empty(tokens, c, paired) {
         return Read::Tree(0, 0, c);
     }
-    let r = behind(
-        tokens,
-        pool,
-        first,
-        0,
-        words::iterate(tokens, c),
-        0,
-        paired,
-        mode,
-        less,
-    );
+    let e = words::iterate(tokens, c);
+    let r = behind(tokens, pool, first, 0, e, 0, paired, mode, less);
     let Read::Tree(k, h, d) = r else {
         return r;
     };
@@ -342,7 +315,7 @@ pub fn enclosed(
     let Read::Tree(k, h, d) = r else {
         return r;
     };
-    if !words::comes(tokens, d, close, due) {
+    if !modes::comes(tokens, d, close, due) {
         return Read::Refused(number, d);
     }
     let e = words::iterate(tokens, d);
@@ -362,17 +335,8 @@ fn pair(tokens: &[u16], pool: &mut [u32], first: usize, c: Cursor, mode: Mode, l
     if !words::next_symbol_is(tokens, d, Symbol::SColon) {
         return Read::Refused(EXPECTED_COLON, d);
     }
-    let q = behind(
-        tokens,
-        pool,
-        first,
-        k,
-        words::iterate(tokens, e),
-        0,
-        false,
-        mode,
-        less,
-    );
+    let v = words::iterate(tokens, e);
+    let q = behind(tokens, pool, first, k, v, 0, false, mode, less);
     let Read::Tree(m, g, f) = q else {
         return q;
     };
@@ -498,15 +462,8 @@ fn started(
     requires { ⌜ Ready (now tokens) (now pool) first c ⌝ }
     ensures { λ r. ⌜ Fresh one (spec.started (by mode) (now (tokens .entry)) (spec.expression (by mode) (now (tokens .entry)) less) (bit flag)) (now (tokens .entry)) c first r (now (pool .entry)) (now (pool .exit)) ⌝ }
 {
-    let r = expression(
-        tokens,
-        pool,
-        first,
-        words::iterate(tokens, c),
-        0,
-        mode,
-        less,
-    );
+    let e = words::iterate(tokens, c);
+    let r = expression(tokens, pool, first, e, 0, mode, less);
     let Read::Tree(k, _, d) = r else {
         return r;
     };
@@ -563,16 +520,8 @@ fn climb(
     let mut h = head;
     let mut d = c;
     while orders::goes_on(order, words::next(tokens, d)) {
-        let r = operation(
-            tokens,
-            pool,
-            first,
-            k,
-            h,
-            words::iterate(tokens, d),
-            mode,
-            less,
-        );
+        let at = words::iterate(tokens, d);
+        let r = operation(tokens, pool, first, k, h, at, mode, less);
         let Read::Tree(m, g, e) = r else {
             return passed(r);
         };
@@ -627,17 +576,8 @@ fn infix_exp(
 {
     let t = words::current(tokens, c);
     let d = words::iterate(tokens, c);
-    let r = behind(
-        tokens,
-        pool,
-        first,
-        rows,
-        d,
-        orders::order_of(t),
-        false,
-        mode,
-        less,
-    );
+    let order = orders::order_of(t);
+    let r = behind(tokens, pool, first, rows, d, order, false, mode, less);
     let Read::Tree(k, h, e) = r else {
         return r;
     };
@@ -727,17 +667,8 @@ fn index(
     requires { ⌜ (Ready (now tokens) (now pool) first c) × (width * rows ≤ length (now pool)) ⌝ }
     ensures { λ r. ⌜ Follows (spec.index (by mode) (now (tokens .entry)) (spec.expression (by mode) (now (tokens .entry)) less)) (now (tokens .entry)) c first rows head r (now (pool .entry)) (now (pool .exit)) ⌝ }
 {
-    let r = behind(
-        tokens,
-        pool,
-        first,
-        rows,
-        words::iterate(tokens, c),
-        0,
-        false,
-        mode,
-        less,
-    );
+    let e = words::iterate(tokens, c);
+    let r = behind(tokens, pool, first, rows, e, 0, false, mode, less);
     let Read::Tree(k, h, d) = r else {
         return r;
     };

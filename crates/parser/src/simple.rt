@@ -6,10 +6,10 @@ use super::names::*;
 use super::part::closed;
 use super::part::put_row;
 use answer::Read;
+use modes::Mode;
 use tokens::Symbol;
 use tokens::Token;
 use words::Cursor;
-use words::Mode;
 ghost use Prim.Native.Nat.{_*_, _≤_};
 ghost use lib.ListN.{length};
 ghost use Rattle.grammar.specs.Words.{SSemiColon, step};
@@ -17,7 +17,7 @@ ghost use Rattle.grammar.specs.Tree.{leaf, node, nil, width};
 ghost use Rattle.grammar.specs.Expressions.{expression};
 ghost use Rattle.grammar.specs.Statements as spec;
 ghost use Rattle.tokens.specs.Tokens.{word};
-ghost use Rattle.words.specs.Modes.{by};
+ghost use Rattle.modes.specs.Modes.{by};
 ghost use Rattle.parser.specs.Meets.{Ready, one};
 ghost use Rattle.parser.specs.Contracts.{Fresh, Behind};
 ghost use Rattle.parser.specs.Contracts as contract;
@@ -83,15 +83,8 @@ pub fn assert_statement(
     requires { ⌜ Ready (now tokens) (now pool) first c ⌝ }
     ensures { λ r. ⌜ Fresh one (spec.assert (by mode) (now (tokens .entry)) (expression (by mode) (now (tokens .entry)) less) (spec.statement (by mode) (now (tokens .entry)) less)) (now (tokens .entry)) c first r (now (pool .entry)) (now (pool .exit)) ⌝ }
 {
-    let r = expression(
-        tokens,
-        pool,
-        first,
-        words::iterate(tokens, c),
-        0,
-        mode,
-        less,
-    );
+    let s = words::iterate(tokens, c);
+    let r = expression(tokens, pool, first, s, 0, mode, less);
     let Read::Tree(k, h, d) = r else {
         return r;
     };
@@ -134,17 +127,8 @@ fn value(
     if !words::current_symbol_is(tokens, d, Symbol::SEq) {
         return Read::Refused(EXPECTED_EQ, d);
     }
-    around(
-        tokens,
-        pool,
-        first,
-        words::iterate(tokens, d),
-        kind,
-        0,
-        c,
-        mode,
-        less,
-    )
+    let e = words::iterate(tokens, d);
+    around(tokens, pool, first, e, kind, 0, c, mode, less)
 }
 
 // parse_var_or_const, by the kind of its row, at the name.

@@ -11,12 +11,12 @@ use super::simple::behind_sign;
 use super::simple::return_statement;
 use super::simple::var_or_const;
 use answer::Read;
+use modes::Due;
+use modes::Mode;
 use tokens::Keyword;
 use tokens::Symbol;
 use tokens::Token;
 use words::Cursor;
-use words::Due;
-use words::Mode;
 ghost use mathlib.Core.Path.{_≡_};
 ghost use Prim.Native.Nat.{_*_, _≤_};
 ghost use lib.ListN.{length};
@@ -27,7 +27,7 @@ ghost use Rattle.grammar.specs.Expressions.{expression};
 ghost use Rattle.grammar.specs.Statements as spec;
 ghost use Rattle.tokens.specs.Tokens.{word};
 ghost use Rattle.tokens.specs.declared.Token.the-variants as token;
-ghost use Rattle.words.specs.Modes.{by};
+ghost use Rattle.modes.specs.Modes.{by};
 ghost use Rattle.parser.specs.Meets.{Ready, one, many};
 ghost use Rattle.parser.specs.Contracts.{Fresh, Behind, Extends, Begun, further};
 ghost use Rattle.parser.specs.Contracts as contract;
@@ -255,6 +255,7 @@ fn function(
     if !words::next_symbol_is(tokens, c, Symbol::SLParen) {
         return Read::Refused(INVALID_SYNTAX, c);
     }
+    let due = Due::Always;
     let r = enclosed(
         tokens,
         pool,
@@ -262,7 +263,7 @@ fn function(
         words::iterate(tokens, c),
         false,
         Symbol::SRparen,
-        Due::Always,
+        due,
         INVALID_SYNTAX,
         mode,
         less,
@@ -270,17 +271,7 @@ fn function(
     let Read::Tree(k, h, d) = r else {
         return r;
     };
-    let q = braced(
-        tokens,
-        pool,
-        first,
-        k,
-        d,
-        Due::Always,
-        INVALID_SYNTAX,
-        mode,
-        less,
-    );
+    let q = braced(tokens, pool, first, k, d, due, INVALID_SYNTAX, mode, less);
     let Read::Tree(m, g, f) = q else {
         return q;
     };
@@ -303,26 +294,18 @@ fn if_statement(
     if !words::next_symbol_is(tokens, c, Symbol::SLParen) {
         return Read::Refused(INVALID_SYNTAX, d);
     }
-    let r = expression(
-        tokens,
-        pool,
-        first,
-        words::iterate(tokens, d),
-        0,
-        mode,
-        less,
-    );
+    let e = words::iterate(tokens, d);
+    let r = expression(tokens, pool, first, e, 0, mode, less);
     let Read::Tree(k0, h0, e0) = r else {
         return r;
     };
-    let paren = Symbol::SRparen;
     let r1 = body(
         tokens,
         pool,
         first,
         k0,
         e0,
-        paren,
+        Symbol::SRparen,
         INVALID_TOKEN,
         Due::Always,
         IF_WITHOUT_BODY,
@@ -350,29 +333,6 @@ fn if_statement(
     put_row(pool, first, k2, e2, IF, 0, c, h0, h1, h2, 0)
 }
 
-// The ends of parse_if_statement and of parse_try_statement: the block of a keyword that comes next, or none.
-fn clause(
-    tokens: &[u16],
-    pool: &mut [u32],
-    first: usize,
-    rows: usize,
-    c: Cursor,
-    k: Keyword,
-    due: Due,
-    number: u32,
-    mode: Mode,
-    less: usize,
-) -> Read
-    requires { ⌜ (Ready (now tokens) (now pool) first c) × (width * rows ≤ length (now pool)) ⌝ }
-    ensures { λ r. ⌜ Behind many (contract.clause due (now (tokens .entry)) (spec.block (by mode) (now (tokens .entry)) (expression (by mode) (now (tokens .entry)) less) (spec.statement (by mode) (now (tokens .entry)) less)) (word (token.Keyword k)) number) (now (tokens .entry)) c first rows r (now (pool .entry)) (now (pool .exit)) ⌝ }
-{
-    if !words::next_keyword_is(tokens, c, k) {
-        return Read::Tree(rows, 0, c);
-    }
-    let d = words::iterate(tokens, c);
-    braced(tokens, pool, first, rows, d, due, number, mode, less)
-}
-
 // parse_while_statement
 fn while_statement(
     tokens: &[u16],
@@ -393,14 +353,13 @@ fn while_statement(
     let Read::Tree(k, h, e) = r else {
         return r;
     };
-    let paren = Symbol::SRparen;
     let q = body(
         tokens,
         pool,
         first,
         k,
         e,
-        paren,
+        Symbol::SRparen,
         INVALID_SYNTAX,
         Due::By(mode),
         WRONG_SIGN,
@@ -425,55 +384,27 @@ fn for_each(
     requires { ⌜ Ready (now tokens) (now pool) first c ⌝ }
     ensures { λ r. ⌜ Fresh one (spec.foreach (by mode) (now (tokens .entry)) (expression (by mode) (now (tokens .entry)) less) (spec.statement (by mode) (now (tokens .entry)) less)) (now (tokens .entry)) c first r (now (pool .entry)) (now (pool .exit)) ⌝ }
 {
-    let r0 = expression(
-        tokens,
-        pool,
-        first,
-        words::iterate(tokens, c),
-        0,
-        mode,
-        less,
-    );
+    let d = words::iterate(tokens, c);
+    let r0 = expression(tokens, pool, first, d, 0, mode, less);
     let Read::Tree(k0, h0, e0) = r0 else {
         return r0;
     };
-    let comma = Token::Operator(Symbol::SComma);
-    let r1 = behind_sign(
-        tokens,
-        pool,
-        first,
-        k0,
-        e0,
-        comma,
-        INVALID_SYNTAX,
-        mode,
-        less,
-    );
+    let sep = Token::Operator(Symbol::SComma);
+    let r1 = behind_sign(tokens, pool, first, k0, e0, sep, INVALID_SYNTAX, mode, less);
     let Read::Tree(k1, h1, e1) = r1 else {
         return r1;
     };
-    let r2 = behind_sign(
-        tokens,
-        pool,
-        first,
-        k1,
-        e1,
-        comma,
-        INVALID_SYNTAX,
-        mode,
-        less,
-    );
+    let r2 = behind_sign(tokens, pool, first, k1, e1, sep, INVALID_SYNTAX, mode, less);
     let Read::Tree(k2, h2, e2) = r2 else {
         return r2;
     };
-    let arrow = Symbol::SImpl;
     let r3 = body(
         tokens,
         pool,
         first,
         k2,
         e2,
-        arrow,
+        Symbol::SImpl,
         INVALID_SYNTAX,
         Due::By(mode),
         WRONG_SIGN,
@@ -498,41 +429,23 @@ fn for_loop(
     requires { ⌜ Ready (now tokens) (now pool) first c ⌝ }
     ensures { λ r. ⌜ Fresh one (spec.for (by mode) (now (tokens .entry)) (expression (by mode) (now (tokens .entry)) less) (spec.statement (by mode) (now (tokens .entry)) less)) (now (tokens .entry)) c first r (now (pool .entry)) (now (pool .exit)) ⌝ }
 {
-    let r0 = expression(
-        tokens,
-        pool,
-        first,
-        words::iterate(tokens, c),
-        0,
-        mode,
-        less,
-    );
+    let d = words::iterate(tokens, c);
+    let r0 = expression(tokens, pool, first, d, 0, mode, less);
     let Read::Tree(k0, h0, e0) = r0 else {
         return r0;
     };
-    let within = Token::Keyword(Keyword::KIn);
-    let r1 = behind_sign(
-        tokens,
-        pool,
-        first,
-        k0,
-        e0,
-        within,
-        INVALID_SYNTAX,
-        mode,
-        less,
-    );
+    let sep = Token::Keyword(Keyword::KIn);
+    let r1 = behind_sign(tokens, pool, first, k0, e0, sep, INVALID_SYNTAX, mode, less);
     let Read::Tree(k1, h1, e1) = r1 else {
         return r1;
     };
-    let arrow = Symbol::SImpl;
     let r2 = body(
         tokens,
         pool,
         first,
         k1,
         e1,
-        arrow,
+        Symbol::SImpl,
         INVALID_SYNTAX,
         Due::Always,
         INVALID_SYNTAX,
@@ -560,10 +473,33 @@ fn braced(
     requires { ⌜ (Ready (now tokens) (now pool) first c) × (width * rows ≤ length (now pool)) ⌝ }
     ensures { λ r. ⌜ Behind one (contract.braced due (now (tokens .entry)) (spec.block (by mode) (now (tokens .entry)) (expression (by mode) (now (tokens .entry)) less) (spec.statement (by mode) (now (tokens .entry)) less)) number) (now (tokens .entry)) c first rows r (now (pool .entry)) (now (pool .exit)) ⌝ }
 {
-    if !words::comes(tokens, c, Symbol::SLBrace, due) {
+    if !modes::comes(tokens, c, Symbol::SLBrace, due) {
         return Read::Refused(number, c);
     }
     block_behind(tokens, pool, first, rows, c, mode, less)
+}
+
+// The block of a keyword that comes next, braced as above, or none: the ends of parse_if_statement and of parse_try_statement.
+fn clause(
+    tokens: &[u16],
+    pool: &mut [u32],
+    first: usize,
+    rows: usize,
+    c: Cursor,
+    k: Keyword,
+    due: Due,
+    number: u32,
+    mode: Mode,
+    less: usize,
+) -> Read
+    requires { ⌜ (Ready (now tokens) (now pool) first c) × (width * rows ≤ length (now pool)) ⌝ }
+    ensures { λ r. ⌜ Behind many (contract.clause due (now (tokens .entry)) (spec.block (by mode) (now (tokens .entry)) (expression (by mode) (now (tokens .entry)) less) (spec.statement (by mode) (now (tokens .entry)) less)) (word (token.Keyword k)) number) (now (tokens .entry)) c first rows r (now (pool .entry)) (now (pool .exit)) ⌝ }
+{
+    if !words::next_keyword_is(tokens, c, k) {
+        return Read::Tree(rows, 0, c);
+    }
+    let d = words::iterate(tokens, c);
+    braced(tokens, pool, first, rows, d, due, number, mode, less)
 }
 
 // parse_try_statement
@@ -578,17 +514,8 @@ fn try_statement(
     requires { ⌜ Ready (now tokens) (now pool) first c ⌝ }
     ensures { λ r. ⌜ Fresh one (spec.try (by mode) (now (tokens .entry)) (expression (by mode) (now (tokens .entry)) less) (spec.statement (by mode) (now (tokens .entry)) less)) (now (tokens .entry)) c first r (now (pool .entry)) (now (pool .exit)) ⌝ }
 {
-    let r0 = braced(
-        tokens,
-        pool,
-        first,
-        0,
-        c,
-        Due::Always,
-        INVALID_SYNTAX,
-        mode,
-        less,
-    );
+    let due = Due::Always;
+    let r0 = braced(tokens, pool, first, 0, c, due, INVALID_SYNTAX, mode, less);
     let Read::Tree(k0, h0, e0) = r0 else {
         return r0;
     };
@@ -607,17 +534,7 @@ fn try_statement(
     let Read::Tree(k1, h1, e1) = r1 else {
         return r1;
     };
-    let r2 = braced(
-        tokens,
-        pool,
-        first,
-        k1,
-        e1,
-        Due::Always,
-        INVALID_SYNTAX,
-        mode,
-        less,
-    );
+    let r2 = braced(tokens, pool, first, k1, e1, due, INVALID_SYNTAX, mode, less);
     let Read::Tree(k2, h2, e2) = r2 else {
         return r2;
     };

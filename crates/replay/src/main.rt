@@ -4,11 +4,11 @@ mod stream;
 
 use answer::Answer;
 use libc::STDOUT_FILENO;
+use modes::mode_of;
 use rows::MOST;
 use rows::WIDTH;
 use stream::half;
 use stream::read;
-use words::mode_of;
 
 // The most words of an array and of a pool, which has two rows more than are ever used, and the bytes of such a case with its
 // record.

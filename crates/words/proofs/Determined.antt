@@ -10,8 +10,6 @@ use Rattle.words.proofs.next_symbol_is.Reads as next-symbol-is
 use Rattle.words.proofs.next_keyword_is.Reads as next-keyword-is
 use Rattle.words.proofs.is_identifier.Reads as is-identifier
 use Rattle.words.proofs.check.Reads as check
-use Rattle.words.proofs.mode_of.Reads as mode-of
-use Rattle.words.proofs.comes.Reads as comes
 
 pub current-determined : Determines current.Post (λ κs r left. r)
 current-determined κs args r r′ left left′ p q = cc
@@ -42,9 +40,3 @@ is-identifier-determined κs args r r′ left left′ p q = cc
 
 pub check-determined : Determines check.Post (λ κs r left. r)
 check-determined κs args r r′ left left′ p q = cc
-
-pub mode-of-determined : Determines mode-of.Post (λ κs r left. r)
-mode-of-determined κs args r r′ left left′ p q = cc
-
-pub comes-determined : Determines comes.Post (λ κs r left. r)
-comes-determined κs args r r′ left left′ p q = cc

@@ -1,3 +1,2 @@
 -- What the contracts say on top of the definition of the language.
 pub mod Array
-pub mod Modes

@@ -1,14 +1,9 @@
-// The cursor over an array of token words, the check of an array, and the modes of reading.
+// The cursor over an array of token words, and the check of an array.
 mod array;
-mod modes;
 mod places;
 
 pub use array::Checked;
 pub use array::check;
-pub use modes::Due;
-pub use modes::Mode;
-pub use modes::comes;
-pub use modes::mode_of;
 pub use places::Cursor;
 pub use places::current;
 pub use places::current_is;

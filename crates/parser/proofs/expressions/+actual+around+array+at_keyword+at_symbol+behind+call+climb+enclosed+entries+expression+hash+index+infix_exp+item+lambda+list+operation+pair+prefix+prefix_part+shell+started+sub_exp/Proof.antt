@@ -33,7 +33,7 @@ use Rattle.parser.proofs.expressions.behind.Reads as behind-reads
 use Rattle.parser.proofs.expressions.call.Reads as call-reads
 use Rattle.parser.proofs.expressions.climb.Reads as climb-reads
 use Rattle.parser.proofs.part.closed.Reads as closed-reads
-use Rattle.words.proofs.comes.Reads as comes-reads
+use Rattle.modes.proofs.comes.Reads as comes-reads
 use Rattle.words.proofs.current.Reads as current-reads
 use Rattle.parser.proofs.dots.dot_expression.Reads as dot-expression-reads
 use Rattle.parser.proofs.expressions.enclosed.Reads as enclosed-reads

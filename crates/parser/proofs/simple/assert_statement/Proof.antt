@@ -11,7 +11,7 @@ use Rattle.grammar.specs.Expressions.{Rec, expression}
 use Rattle.grammar.specs.Statements.{assert}
 use Rattle.grammar.specs.Statements as spec
 use Rattle.grammar.specs.Rules.{Rules}
-use Rattle.words.specs.Modes.{by}
+use Rattle.modes.specs.Modes.{by}
 use Rattle.parser.specs.Contracts.{behind-sign}
 use Rattle.parser.specs.Meets.{of-node}
 use Rattle.parser.proofs.Answers.{taken, TakenOf, by-eq, refuses, need-met, need-failed, sooner, Starts, starts-at, goes, pass-on}
@@ -42,8 +42,8 @@ module _ (rules : Rules) (ts : List ℕ) (expr : Rec) (stmt : Reader Trees) (sta
       unfolding second
       ended f = goes second f
 
-read-1 : (c : tie.After-r) → TakenOf (sooner (on-step _ _ (c .before .before .before .before .before .iterate .ensures)) (c .before .before .before .before .expression .ensures)) (c .r .given .1)
-read-1 c = taken (sooner (on-step _ _ (c .before .before .before .before .before .iterate .ensures)) (c .before .before .before .before .expression .ensures)) (c .r .given .1)
+read-1 : (c : tie.After-r) → TakenOf (sooner (on-step _ _ (c .before .before .before .before .before .before .iterate .ensures)) (c .before .before .before .before .expression .ensures)) (c .r .given .1)
+read-1 c = taken (sooner (on-step _ _ (c .before .before .before .before .before .before .iterate .ensures)) (c .before .before .before .before .expression .ensures)) (c .r .given .1)
 
 read-2 : (c : tie.After-q) → TakenOf (c .before .before .before .before .behind-sign .ensures .1 _ _ _ _ (read-1 (c .before .before .before .before .before .before .before .before .before) .stands)) (c .q .given .1)
 read-2 c = taken (c .before .before .before .before .behind-sign .ensures .1 _ _ _ _ (read-1 (c .before .before .before .before .before .before .before .before .before) .stands)) (c .q .given .1)
@@ -52,7 +52,7 @@ iterate-requires : tie.Need-iterate-requires
 iterate-requires c κs = search needs
 
 expression-requires : tie.Need-expression-requires
-expression-requires c κs = ready-step _ _ (c .iterate .ensures) (c .before .before .before .before .pre)
+expression-requires c κs = ready-step _ _ (c .before .iterate .ensures) (c .before .before .before .before .pre)
 
 enum-known-r : tie.Need-enum-known-r
 enum-known-r c = c .match .keys1
@@ -64,7 +64,7 @@ same-length : tie.Need-same-length
 same-length c = c .before .before .before .before .expression .kept .1 .0
 
 returns : tie.Need-returns
-returns c = pass-on (first (by (c .before .before .before .before .before .before .before .before .before .args .mode)) (c .before .before .before .before .before .before .before .before .before .args .tokens .now) (expression (by (c .before .before .before .before .before .before .before .before .before .args .mode)) (c .before .before .before .before .before .before .before .before .before .args .tokens .now) (c .before .before .before .before .before .before .before .before .before .args .less)) (spec.statement (by (c .before .before .before .before .before .before .before .before .before .args .mode)) (c .before .before .before .before .before .before .before .before .before .args .tokens .now) (c .before .before .before .before .before .before .before .before .before .args .less)) _ _ (c .before .before .before .before .before .iterate .ensures)) (sooner (on-step _ _ (c .before .before .before .before .before .iterate .ensures)) (c .before .before .before .before .expression .ensures)) (c .enum-told .given .1)
+returns c = pass-on (first (by (c .before .before .before .before .before .before .before .before .before .args .mode)) (c .before .before .before .before .before .before .before .before .before .args .tokens .now) (expression (by (c .before .before .before .before .before .before .before .before .before .args .mode)) (c .before .before .before .before .before .before .before .before .before .args .tokens .now) (c .before .before .before .before .before .before .before .before .before .args .less)) (spec.statement (by (c .before .before .before .before .before .before .before .before .before .args .mode)) (c .before .before .before .before .before .before .before .before .before .args .tokens .now) (c .before .before .before .before .before .before .before .before .before .args .less)) _ _ (c .before .before .before .before .before .before .iterate .ensures)) (sooner (on-step _ _ (c .before .before .before .before .before .before .iterate .ensures)) (c .before .before .before .before .expression .ensures)) (c .enum-told .given .1)
 
 next-symbol-is-requires : tie.Need-next-symbol-is-requires
 next-symbol-is-requires c κs = search needs
@@ -76,7 +76,7 @@ same-length-2 : tie.Need-same-length-2
 same-length-2 c = c .before .before .before .before .before .before .before .before .expression .kept .1 .0
 
 returns-2 : tie.Need-returns-2
-returns-2 c = rw (c .iterate2 .ensures) (refuses _ _ _ (stops (by (c .before .before .before .before .before .before .before .before .before .before .before .before .before .args .mode)) (c .before .before .before .before .before .before .before .before .before .before .before .before .before .args .tokens .now) (expression (by (c .before .before .before .before .before .before .before .before .before .before .before .before .before .args .mode)) (c .before .before .before .before .before .before .before .before .before .before .before .before .before .args .tokens .now) (c .before .before .before .before .before .before .before .before .before .before .before .before .before .args .less)) (spec.statement (by (c .before .before .before .before .before .before .before .before .before .before .before .before .before .args .mode)) (c .before .before .before .before .before .before .before .before .before .before .before .before .before .args .tokens .now) (c .before .before .before .before .before .before .before .before .before .before .before .before .before .args .less)) _ _ (c .before .before .before .before .before .before .before .before .before .iterate .ensures) (read-1 (c .before .before .before .before) .eq) (sym (c .before .before .next-symbol-is .ensures) ∙ c .before .if1 .taken)))
+returns-2 c = rw (c .iterate2 .ensures) (refuses _ _ _ (stops (by (c .before .before .before .before .before .before .before .before .before .before .before .before .before .args .mode)) (c .before .before .before .before .before .before .before .before .before .before .before .before .before .args .tokens .now) (expression (by (c .before .before .before .before .before .before .before .before .before .before .before .before .before .args .mode)) (c .before .before .before .before .before .before .before .before .before .before .before .before .before .args .tokens .now) (c .before .before .before .before .before .before .before .before .before .before .before .before .before .args .less)) (spec.statement (by (c .before .before .before .before .before .before .before .before .before .before .before .before .before .args .mode)) (c .before .before .before .before .before .before .before .before .before .before .before .before .before .args .tokens .now) (c .before .before .before .before .before .before .before .before .before .before .before .before .before .args .less)) _ _ (c .before .before .before .before .before .before .before .before .before .before .iterate .ensures) (read-1 (c .before .before .before .before) .eq) (sym (c .before .before .next-symbol-is .ensures) ∙ c .before .if1 .taken)))
 
 behind-sign-requires : tie.Need-behind-sign-requires
 behind-sign-requires c κs = (ready-same (c .before .before .before .before .before .before .before .before .before .before .before .before .before .pre) (c .before .before .before .before .before .before .before .before .expression .kept .1 .0) (read-1 (c .before .before .before .before) .stands .within), front-le (read-1 (c .before .before .before .before) .stands .front))
@@ -91,7 +91,7 @@ same-length-3 : tie.Need-same-length-3
 same-length-3 c = c .before .before .before .before .behind-sign .kept .1 .0 ∙ c .before .before .before .before .before .before .before .before .before .before .before .before .before .expression .kept .1 .0
 
 returns-3 : tie.Need-returns-3
-returns-3 c = pass-on (second (by (c .before .before .before .before .before .before .before .before .before .before .before .before .before .before .before .before .before .before .args .mode)) (c .before .before .before .before .before .before .before .before .before .before .before .before .before .before .before .before .before .before .args .tokens .now) (expression (by (c .before .before .before .before .before .before .before .before .before .before .before .before .before .before .before .before .before .before .args .mode)) (c .before .before .before .before .before .before .before .before .before .before .before .before .before .before .before .before .before .before .args .tokens .now) (c .before .before .before .before .before .before .before .before .before .before .before .before .before .before .before .before .before .before .args .less)) (spec.statement (by (c .before .before .before .before .before .before .before .before .before .before .before .before .before .before .before .before .before .before .args .mode)) (c .before .before .before .before .before .before .before .before .before .before .before .before .before .before .before .before .before .before .args .tokens .now) (c .before .before .before .before .before .before .before .before .before .before .before .before .before .before .before .before .before .before .args .less)) _ _ (c .before .before .before .before .before .before .before .before .before .before .before .before .before .before .iterate .ensures) (read-1 (c .before .before .before .before .before .before .before .before .before) .eq) (sym (c .before .before .before .before .before .before .before .next-symbol-is .ensures) ∙ c .before .before .before .before .before .before .if1 .left)) (c .before .before .before .before .behind-sign .ensures .1 _ _ _ _ (read-1 (c .before .before .before .before .before .before .before .before .before) .stands)) (c .enum-told2 .given .1)
+returns-3 c = pass-on (second (by (c .before .before .before .before .before .before .before .before .before .before .before .before .before .before .before .before .before .before .args .mode)) (c .before .before .before .before .before .before .before .before .before .before .before .before .before .before .before .before .before .before .args .tokens .now) (expression (by (c .before .before .before .before .before .before .before .before .before .before .before .before .before .before .before .before .before .before .args .mode)) (c .before .before .before .before .before .before .before .before .before .before .before .before .before .before .before .before .before .before .args .tokens .now) (c .before .before .before .before .before .before .before .before .before .before .before .before .before .before .before .before .before .before .args .less)) (spec.statement (by (c .before .before .before .before .before .before .before .before .before .before .before .before .before .before .before .before .before .before .args .mode)) (c .before .before .before .before .before .before .before .before .before .before .before .before .before .before .before .before .before .before .args .tokens .now) (c .before .before .before .before .before .before .before .before .before .before .before .before .before .before .before .before .before .before .args .less)) _ _ (c .before .before .before .before .before .before .before .before .before .before .before .before .before .before .before .iterate .ensures) (read-1 (c .before .before .before .before .before .before .before .before .before) .eq) (sym (c .before .before .before .before .before .before .before .next-symbol-is .ensures) ∙ c .before .before .before .before .before .before .if1 .left)) (c .before .before .before .before .behind-sign .ensures .1 _ _ _ _ (read-1 (c .before .before .before .before .before .before .before .before .before) .stands)) (c .enum-told2 .given .1)
 
 put-row-requires : tie.Need-put-row-requires
 put-row-requires c κs = (fits-same _ _ _ (c .before .before .before .before .before .before .before .before .before .before .before .before .before .before .before .before .before .before .before .before .pre .fits) (c .before .before .before .before .before .before .behind-sign .kept .1 .0 ∙ c .before .before .before .before .before .before .before .before .before .before .before .before .before .before .before .expression .kept .1 .0), small (c .before .before .before .before .before .before .before .before .before .before .before .before .before .before .before .before .before .before .before .before .pre))
@@ -101,7 +101,7 @@ same-length-4 c = c .before .before .put-row .kept .0 ∙ c .before .before .bef
 
 returns-4 : tie.Need-returns-4
 returns-4 c =
-    by-eq (ended (by (c .before .before .before .before .before .before .before .before .before .before .before .before .before .before .before .before .before .before .before .before .before .before .before .args .mode)) (c .before .before .before .before .before .before .before .before .before .before .before .before .before .before .before .before .before .before .before .before .before .before .before .args .tokens .now) (expression (by (c .before .before .before .before .before .before .before .before .before .before .before .before .before .before .before .before .before .before .before .before .before .before .before .args .mode)) (c .before .before .before .before .before .before .before .before .before .before .before .before .before .before .before .before .before .before .before .before .before .before .before .args .tokens .now) (c .before .before .before .before .before .before .before .before .before .before .before .before .before .before .before .before .before .before .before .before .before .before .before .args .less)) (spec.statement (by (c .before .before .before .before .before .before .before .before .before .before .before .before .before .before .before .before .before .before .before .before .before .before .before .args .mode)) (c .before .before .before .before .before .before .before .before .before .before .before .before .before .before .before .before .before .before .before .before .before .before .before .args .tokens .now) (c .before .before .before .before .before .before .before .before .before .before .before .before .before .before .before .before .before .before .before .before .before .before .before .args .less)) _ _ (c .before .before .before .before .before .before .before .before .before .before .before .before .before .before .before .before .before .before .before .iterate .ensures) (read-1 (c .before .before .before .before .before .before .before .before .before .before .before .before .before .before) .eq) (sym (c .before .before .before .before .before .before .before .before .before .before .before .before .next-symbol-is .ensures) ∙ c .before .before .before .before .before .before .before .before .before .before .before .if1 .left) (read-2 (c .before .before .before .before .before) .eq))
+    by-eq (ended (by (c .before .before .before .before .before .before .before .before .before .before .before .before .before .before .before .before .before .before .before .before .before .before .before .args .mode)) (c .before .before .before .before .before .before .before .before .before .before .before .before .before .before .before .before .before .before .before .before .before .before .before .args .tokens .now) (expression (by (c .before .before .before .before .before .before .before .before .before .before .before .before .before .before .before .before .before .before .before .before .before .before .before .args .mode)) (c .before .before .before .before .before .before .before .before .before .before .before .before .before .before .before .before .before .before .before .before .before .before .before .args .tokens .now) (c .before .before .before .before .before .before .before .before .before .before .before .before .before .before .before .before .before .before .before .before .before .before .before .args .less)) (spec.statement (by (c .before .before .before .before .before .before .before .before .before .before .before .before .before .before .before .before .before .before .before .before .before .before .before .args .mode)) (c .before .before .before .before .before .before .before .before .before .before .before .before .before .before .before .before .before .before .before .before .before .before .before .args .tokens .now) (c .before .before .before .before .before .before .before .before .before .before .before .before .before .before .before .before .before .before .before .before .before .before .before .args .less)) _ _ (c .before .before .before .before .before .before .before .before .before .before .before .before .before .before .before .before .before .before .before .before .iterate .ensures) (read-1 (c .before .before .before .before .before .before .before .before .before .before .before .before .before .before) .eq) (sym (c .before .before .before .before .before .before .before .before .before .before .before .before .next-symbol-is .ensures) ∙ c .before .before .before .before .before .before .before .before .before .before .before .if1 .left) (read-2 (c .before .before .before .before .before) .eq))
     (c .before .before .put-row .ensures (c .before .before .before .before .before .before .before .before .before .before .before .before .before .before .before .before .before .before .before .before .before .before .before .args .tokens .now) (read-2 (c .before .before .before .before .before) .stands .within) .1 _ [] _ _ _ _ (read-2 (c .before .before .before .before .before) .stands) (record { few = tt; root = of-node; refs = (read-1 (c .before .before .before .before .before .before .before .before .before .before .before .before .before .before) .head, read-2 (c .before .before .before .before .before) .head, refl, refl) }))
 
 pub assert-statement-spec : {M : Type 1} → statement M

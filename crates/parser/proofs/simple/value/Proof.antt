@@ -23,7 +23,7 @@ iterate-requires-2 : tie.Need-iterate-requires-2
 iterate-requires-2 c κs = search needs
 
 around-requires : tie.Need-around-requires
-around-requires c κs = (ready-step _ _ (c .iterate2 .ensures) (ready-step _ _ (c .before .before .before .before .iterate .ensures) (c .before .before .before .before .before .before .before .pre)), small (c .before .before .before .before .before .before .before .pre))
+around-requires c κs = (ready-step _ _ (c .before .iterate2 .ensures) (ready-step _ _ (c .before .before .before .before .iterate .ensures) (c .before .before .before .before .before .before .before .pre)), small (c .before .before .before .before .before .before .before .pre))
 
 same-length : tie.Need-same-length
 same-length c = c .before .before .around .kept .1 .0
@@ -31,8 +31,8 @@ same-length c = c .before .before .around .kept .1 .0
 returns-2 : tie.Need-returns-2
 unfolding value around
 returns-2 c =
-    sooner (on-step _ _ (c .before .before .before .before .before .before .before .iterate .ensures)) (sooner (on-step _ _ (c .before .before .before .iterate2 .ensures))
-    (rw (← (c .before .before .before .before .before .before .before .iterate .ensures)) (by-eq (need-met _ _ _ (sym (c .before .before .before .before .before .before .current-symbol-is .ensures) ∙ not-false _ (c .before .before .before .before .before .if1 .left))) (rw (← (c .before .before .before .iterate2 .ensures)) (c .before .before .around .ensures)))))
+    sooner (on-step _ _ (c .before .before .before .before .before .before .before .iterate .ensures)) (sooner (on-step _ _ (c .before .before .before .before .iterate2 .ensures))
+    (rw (← (c .before .before .before .before .before .before .before .iterate .ensures)) (by-eq (need-met _ _ _ (sym (c .before .before .before .before .before .before .current-symbol-is .ensures) ∙ not-false _ (c .before .before .before .before .before .if1 .left))) (rw (← (c .before .before .before .before .iterate2 .ensures)) (c .before .before .around .ensures)))))
 
 pub value-spec : {M : Type 1} → statement M
 value-spec =

@@ -25,7 +25,7 @@ use Rattle.parser.proofs.statements.block.Reads as block-reads
 use Rattle.parser.proofs.statements.body.Reads as body-reads
 use Rattle.parser.proofs.statements.braced.Reads as braced-reads
 use Rattle.parser.proofs.statements.clause.Reads as clause-reads
-use Rattle.words.proofs.comes.Reads as comes-reads
+use Rattle.modes.proofs.comes.Reads as comes-reads
 use Rattle.words.proofs.current_is.Reads as current-is-reads
 use Rattle.words.proofs.current.Reads as current-reads
 use Rattle.words.proofs.current_symbol_is.Reads as current-symbol-is-reads

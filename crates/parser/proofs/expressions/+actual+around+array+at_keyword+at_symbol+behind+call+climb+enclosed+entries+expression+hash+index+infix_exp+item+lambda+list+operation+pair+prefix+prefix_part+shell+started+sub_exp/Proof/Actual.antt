@@ -6,8 +6,8 @@ use mathlib.Core.Bool.{false}
 use Rattle.grammar.specs.Words.{SRparen}
 use Rattle.grammar.specs.Parsed.{WrongSign}
 use Rattle.grammar.specs.Expressions.{expression}
-use Rattle.words.specs.declared.modes.Due.the-variants.{By}
-use Rattle.words.specs.Modes.{by}
+use Rattle.modes.specs.declared.Due.the-variants.{By}
+use Rattle.modes.specs.Modes.{by}
 use Rattle.parser.specs.Contracts.{closed-list}
 use Rattle.parser.proofs.Answers.{taken, TakenOf, bounded-tree, bounded-told}
 use Rattle.parser.proofs.Parts.{ready-lent, in-part, back-read, back-refused, back-same, part-length}

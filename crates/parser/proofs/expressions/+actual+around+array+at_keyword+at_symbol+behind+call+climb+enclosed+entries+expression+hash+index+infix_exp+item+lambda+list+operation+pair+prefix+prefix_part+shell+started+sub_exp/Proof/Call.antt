@@ -9,9 +9,9 @@ use Rattle.grammar.specs.Tree.{Tree, Trees}
 use Rattle.grammar.specs.Tree as tree
 use Rattle.grammar.specs.Parsed.{read, build, WrongSign}
 use Rattle.grammar.specs.Expressions.{Rec, expression, call}
-use Rattle.words.specs.declared.modes.Mode.{Mode}
-use Rattle.words.specs.declared.modes.Due.the-variants.{By}
-use Rattle.words.specs.Modes.{by}
+use Rattle.modes.specs.declared.Mode.{Mode}
+use Rattle.modes.specs.declared.Due.the-variants.{By}
+use Rattle.modes.specs.Modes.{by}
 use Rattle.parser.specs.Contracts.{items, closed-list}
 use Rattle.parser.specs.Meets.{of-node}
 use Rattle.parser.proofs.Answers.{taken, by-eq, choose-true, choose-false, bounds, bounded-told, later, Starts, goes, pass-on}

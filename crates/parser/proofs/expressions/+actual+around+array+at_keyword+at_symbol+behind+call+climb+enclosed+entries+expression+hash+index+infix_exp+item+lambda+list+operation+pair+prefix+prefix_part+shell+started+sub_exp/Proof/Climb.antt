@@ -11,7 +11,7 @@ use Rattle.grammar.specs.Expressions.{expression, climb}
 use Rattle.tokens.specs.Tokens.{word}
 use Rattle.tokens.proofs.Round.{word-token}
 use Rattle.grammar.specs.Rules.{Rules}
-use Rattle.words.specs.Modes.{by}
+use Rattle.modes.specs.Modes.{by}
 use Rattle.parser.specs.Meets.{Stands, one}
 use Rattle.parser.proofs.Answers.{bounds, bounded-tree, bounded-told, told, taken, pass, by-eq, choose-true, choose-false, then-read}
 use Rattle.parser.proofs.Loops.{Turning, starts, stops, turns-on}
@@ -60,7 +60,7 @@ module _ (t : ℕ) where
 
   pub operation-requires : lts.Need-operation-requires cs (climb-at t) climb-reads.Post Inv-loop μ-loop
   operation-requires c κs =
-      (falls _ _ _ _ _ _ _ (c .before .before .before .before .before .before .before .before .pre .0) (le-trans (c .before .before .before .before .before .loop .inv .on) (on-step _ _ (c .iterate .ensures))) (lit< tt), (ready-step _ _ (c .iterate .ensures) (ready-same (c .before .before .before .before .before .before .before .before .pre .1 .0) (c .before .before .before .before .before .loop .inv .same) (c .before .before .before .before .before .loop .inv .within)), c .before .before .before .before .before .loop .inv .fit, rw (c .iterate .ensures) (operates-on _ _ (ap (goes-on _) (sym (ap word (c .before .before .before .before .next .ensures) ∙ word-token _ (c .before .before .before .before .before .before .before .before .pre .1 .0 .sound .good (step (c .before .before .before .before .before .before .before .before .args .tokens .now) (c .before .before .before .before .before .loop .d))))) ∙ sym (c .before .before .before .goes-on .ensures) ∙ c .before .before .if1 .taken))))
+      (falls _ _ _ _ _ _ _ (c .before .before .before .before .before .before .before .before .pre .0) (le-trans (c .before .before .before .before .before .loop .inv .on) (on-step _ _ (c .before .iterate .ensures))) (lit< tt), (ready-step _ _ (c .before .iterate .ensures) (ready-same (c .before .before .before .before .before .before .before .before .pre .1 .0) (c .before .before .before .before .before .loop .inv .same) (c .before .before .before .before .before .loop .inv .within)), c .before .before .before .before .before .loop .inv .fit, rw (c .before .iterate .ensures) (operates-on _ _ (ap (goes-on _) (sym (ap word (c .before .before .before .before .next .ensures) ∙ word-token _ (c .before .before .before .before .before .before .before .before .pre .1 .0 .sound .good (step (c .before .before .before .before .before .before .before .before .args .tokens .now) (c .before .before .before .before .before .loop .d))))) ∙ sym (c .before .before .before .goes-on .ensures) ∙ c .before .before .if1 .taken))))
 
   pub enum-known-r : lts.Need-enum-known-r cs (climb-at t) climb-reads.Post Inv-loop μ-loop
   enum-known-r c = c .match .keys1
@@ -79,11 +79,11 @@ module _ (t : ℕ) where
   returns c = (
     bounded-told (c .passed .ensures ∙ c .before .enum-told .given .1),
     λ from t zs left s e. let w = c .before .before .before .before .before .before .before .before .before .before .before .loop .inv .state from t zs left s e in
-        by-eq (w .eq ∙ choose-true _ _ (ap (goes-on _) (sym (ap word (c .before .before .before .before .before .before .before .before .before .before .next .ensures) ∙ word-token _ (c .before .before .before .before .before .before .before .before .before .before .before .before .before .before .pre .1 .0 .sound .good (step (c .before .before .before .before .before .before .before .before .before .before .before .before .before .before .args .tokens .now) (c .before .before .before .before .before .before .before .before .before .before .before .loop .d))))) ∙ sym (c .before .before .before .before .before .before .before .before .before .goes-on .ensures) ∙ c .before .before .before .before .before .before .before .before .if1 .taken)) (rw (← (c .before .before .before .before .before .before .iterate .ensures)) (told (sym (c .passed .ensures)) (pass _ (c .before .before .before .before .before .operation .ensures .1 _ _ _ _ (stands-step _ _ (c .before .before .before .before .before .before .iterate .ensures) (w .stands)) (w .head)) (c .before .enum-told .given .1)))),
+        by-eq (w .eq ∙ choose-true _ _ (ap (goes-on _) (sym (ap word (c .before .before .before .before .before .before .before .before .before .before .next .ensures) ∙ word-token _ (c .before .before .before .before .before .before .before .before .before .before .before .before .before .before .pre .1 .0 .sound .good (step (c .before .before .before .before .before .before .before .before .before .before .before .before .before .before .args .tokens .now) (c .before .before .before .before .before .before .before .before .before .before .before .loop .d))))) ∙ sym (c .before .before .before .before .before .before .before .before .before .goes-on .ensures) ∙ c .before .before .before .before .before .before .before .before .if1 .taken)) (rw (← (c .before .before .before .before .before .before .before .iterate .ensures)) (told (sym (c .passed .ensures)) (pass _ (c .before .before .before .before .before .operation .ensures .1 _ _ _ _ (stands-step _ _ (c .before .before .before .before .before .before .before .iterate .ensures) (w .stands)) (w .head)) (c .before .enum-told .given .1)))),
   )
 
   pub loop-less : lts.Need-loop-less cs (climb-at t) climb-reads.Post Inv-loop μ-loop
-  loop-less c = let b = bounds (c .before .before .before .before .before .operation .ensures .0) (c .before .r .given .1) in omega (arith, b .on, b .within, goes-onward _ (c .before .before .before .before .before .before .before .before .before .before .before .before .before .before .pre .1 .0 .sound) (c .before .before .before .before .before .before .before .before .before .before .before .loop .inv .within) (ap (goes-on _) (sym (ap word (c .before .before .before .before .before .before .before .before .before .before .next .ensures) ∙ word-token _ (c .before .before .before .before .before .before .before .before .before .before .before .before .before .before .pre .1 .0 .sound .good (step (c .before .before .before .before .before .before .before .before .before .before .before .before .before .before .args .tokens .now) (c .before .before .before .before .before .before .before .before .before .before .before .loop .d))))) ∙ sym (c .before .before .before .before .before .before .before .before .before .goes-on .ensures) ∙ c .before .before .before .before .before .before .before .before .if1 .taken), c .before .before .before .before .before .before .iterate .ensures)
+  loop-less c = let b = bounds (c .before .before .before .before .before .operation .ensures .0) (c .before .r .given .1) in omega (arith, b .on, b .within, goes-onward _ (c .before .before .before .before .before .before .before .before .before .before .before .before .before .before .pre .1 .0 .sound) (c .before .before .before .before .before .before .before .before .before .before .before .loop .inv .within) (ap (goes-on _) (sym (ap word (c .before .before .before .before .before .before .before .before .before .before .next .ensures) ∙ word-token _ (c .before .before .before .before .before .before .before .before .before .before .before .before .before .before .pre .1 .0 .sound .good (step (c .before .before .before .before .before .before .before .before .before .before .before .before .before .before .args .tokens .now) (c .before .before .before .before .before .before .before .before .before .before .before .loop .d))))) ∙ sym (c .before .before .before .before .before .before .before .before .before .goes-on .ensures) ∙ c .before .before .before .before .before .before .before .before .if1 .taken), c .before .before .before .before .before .before .before .iterate .ensures)
 
   pub loop-again : lts.Need-loop-again cs (climb-at t) climb-reads.Post Inv-loop μ-loop
   unfolding climb
@@ -92,10 +92,10 @@ module _ (t : ℕ) where
       record {
         same = c .before .before .before .before .before .operation .kept .1 .0 ∙ c .before .before .before .before .before .before .before .before .before .before .before .loop .inv .same;
         fit = omega (arith, b .fit, c .before .before .before .before .before .operation .kept .1 .0);
-        on = le-trans (c .before .before .before .before .before .before .before .before .before .before .before .loop .inv .on) (le-trans (on-step _ _ (c .before .before .before .before .before .before .iterate .ensures)) (b .on));
+        on = le-trans (c .before .before .before .before .before .before .before .before .before .before .before .loop .inv .on) (le-trans (on-step _ _ (c .before .before .before .before .before .before .before .iterate .ensures)) (b .on));
         within = b .within;
-        state = λ from t zs left s e. let w = c .before .before .before .before .before .before .before .before .before .before .before .loop .inv .state from t zs left s e in let q = taken (c .before .before .before .before .before .operation .ensures .1 _ _ _ _ (stands-step _ _ (c .before .before .before .before .before .before .iterate .ensures) (w .stands)) (w .head)) (c .before .r .given .1) in
-            turns-on w _ _ (choose-true _ _ (ap (goes-on _) (sym (ap word (c .before .before .before .before .before .before .before .before .before .before .next .ensures) ∙ word-token _ (c .before .before .before .before .before .before .before .before .before .before .before .before .before .before .pre .1 .0 .sound .good (step (c .before .before .before .before .before .before .before .before .before .before .before .before .before .before .args .tokens .now) (c .before .before .before .before .before .before .before .before .before .before .before .loop .d))))) ∙ sym (c .before .before .before .before .before .before .before .before .before .goes-on .ensures) ∙ c .before .before .before .before .before .before .before .before .if1 .taken) ∙ rw (← (c .before .before .before .before .before .before .iterate .ensures)) (then-read _ (q .eq))) (omega (arith, b .on, goes-onward _ (c .before .before .before .before .before .before .before .before .before .before .before .before .before .before .pre .1 .0 .sound) (c .before .before .before .before .before .before .before .before .before .before .before .loop .inv .within) (ap (goes-on _) (sym (ap word (c .before .before .before .before .before .before .before .before .before .before .next .ensures) ∙ word-token _ (c .before .before .before .before .before .before .before .before .before .before .before .before .before .before .pre .1 .0 .sound .good (step (c .before .before .before .before .before .before .before .before .before .before .before .before .before .before .args .tokens .now) (c .before .before .before .before .before .before .before .before .before .before .before .loop .d))))) ∙ sym (c .before .before .before .before .before .before .before .before .before .goes-on .ensures) ∙ c .before .before .before .before .before .before .before .before .if1 .taken), c .before .before .before .before .before .before .iterate .ensures)) (q .head) (q .stands);
+        state = λ from t zs left s e. let w = c .before .before .before .before .before .before .before .before .before .before .before .loop .inv .state from t zs left s e in let q = taken (c .before .before .before .before .before .operation .ensures .1 _ _ _ _ (stands-step _ _ (c .before .before .before .before .before .before .before .iterate .ensures) (w .stands)) (w .head)) (c .before .r .given .1) in
+            turns-on w _ _ (choose-true _ _ (ap (goes-on _) (sym (ap word (c .before .before .before .before .before .before .before .before .before .before .next .ensures) ∙ word-token _ (c .before .before .before .before .before .before .before .before .before .before .before .before .before .before .pre .1 .0 .sound .good (step (c .before .before .before .before .before .before .before .before .before .before .before .before .before .before .args .tokens .now) (c .before .before .before .before .before .before .before .before .before .before .before .loop .d))))) ∙ sym (c .before .before .before .before .before .before .before .before .before .goes-on .ensures) ∙ c .before .before .before .before .before .before .before .before .if1 .taken) ∙ rw (← (c .before .before .before .before .before .before .before .iterate .ensures)) (then-read _ (q .eq))) (omega (arith, b .on, goes-onward _ (c .before .before .before .before .before .before .before .before .before .before .before .before .before .before .pre .1 .0 .sound) (c .before .before .before .before .before .before .before .before .before .before .before .loop .inv .within) (ap (goes-on _) (sym (ap word (c .before .before .before .before .before .before .before .before .before .before .next .ensures) ∙ word-token _ (c .before .before .before .before .before .before .before .before .before .before .before .before .before .before .pre .1 .0 .sound .good (step (c .before .before .before .before .before .before .before .before .before .before .before .before .before .before .args .tokens .now) (c .before .before .before .before .before .before .before .before .before .before .before .loop .d))))) ∙ sym (c .before .before .before .before .before .before .before .before .before .goes-on .ensures) ∙ c .before .before .before .before .before .before .before .before .if1 .taken), c .before .before .before .before .before .before .before .iterate .ensures)) (q .head) (q .stands);
       }
 
   pub same-length-2 : lts.Need-same-length-2 cs (climb-at t) climb-reads.Post Inv-loop μ-loop

@@ -7,7 +7,7 @@ use Rattle.parser.specs.Contracts.{closed-list}
 use Rattle.parser.proofs.Answers.{taken, TakenOf, pass, by-eq, refuses, then-read, need-met, need-failed, read-on}
 use Rattle.parser.proofs.Moves.{falls, le-refl, stands-step}
 use borrow.Author.Needs.{needs}
-use Rattle.words.proofs.comes.Reads as comes-reads
+use Rattle.modes.proofs.comes.Reads as comes-reads
 use Rattle.parser.proofs.expressions.enclosed.Reads as enclosed-reads
 use Rattle.words.proofs.iterate.Reads as iterate-reads
 use Rattle.parser.proofs.expressions.list.Reads as list-reads

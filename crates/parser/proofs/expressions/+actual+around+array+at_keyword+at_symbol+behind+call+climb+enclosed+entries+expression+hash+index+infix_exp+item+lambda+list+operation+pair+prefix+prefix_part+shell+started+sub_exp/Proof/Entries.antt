@@ -10,7 +10,7 @@ use Rattle.grammar.specs.Words.{SComma}
 use Rattle.grammar.specs.Tree.{Trees, head-ref, width}
 use Rattle.grammar.specs.Expressions.{expression, entries}
 use Rattle.grammar.specs.Rules.{Rules}
-use Rattle.words.specs.Modes.{by}
+use Rattle.modes.specs.Modes.{by}
 use Rattle.parser.specs.Contracts.{item}
 use Rattle.parser.specs.Meets.{Stands, many}
 use Rattle.parser.proofs.Answers.{bounds, bounded-tree, bounded-told, taken, pass, by-eq, choose-true, choose-false, then-read}

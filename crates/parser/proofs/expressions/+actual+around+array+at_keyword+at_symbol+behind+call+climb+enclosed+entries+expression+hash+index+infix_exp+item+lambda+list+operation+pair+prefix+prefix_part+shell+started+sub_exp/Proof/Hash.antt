@@ -10,8 +10,8 @@ use Rattle.grammar.specs.Tree as tree
 use Rattle.grammar.specs.Parsed.{read, build, HashNotTerminated}
 use Rattle.grammar.specs.Rules.{Rules}
 use Rattle.grammar.specs.Expressions.{Rec, expression, hash-literal}
-use Rattle.words.specs.declared.modes.Due.the-variants.{Always}
-use Rattle.words.specs.Modes.{by}
+use Rattle.modes.specs.declared.Due.the-variants.{Always}
+use Rattle.modes.specs.Modes.{by}
 use Rattle.parser.specs.Contracts.{items, closed-list}
 use Rattle.parser.specs.Meets.{of-node}
 use Rattle.parser.proofs.Answers.{at-once, taken, TakenOf, by-eq, choose-true, choose-false, Starts, goes, pass-on}

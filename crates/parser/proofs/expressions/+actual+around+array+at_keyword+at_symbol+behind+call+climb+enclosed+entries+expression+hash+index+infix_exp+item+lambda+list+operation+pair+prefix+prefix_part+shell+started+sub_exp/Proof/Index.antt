@@ -24,7 +24,7 @@ module _ (t : ℕ) where
   iterate-requires c κs = search needs
 
   pub behind-requires : lts.Need-behind-requires cs (index-at t) index-reads.Post
-  behind-requires c κs = (falls _ _ _ _ _ _ _ (c .before .before .before .before .pre .0) (on-step _ _ (c .iterate .ensures)) (lit< tt), (ready-step _ _ (c .iterate .ensures) (c .before .before .before .before .pre .1 .0), c .before .before .before .before .pre .1 .1))
+  behind-requires c κs = (falls _ _ _ _ _ _ _ (c .before .before .before .before .pre .0) (on-step _ _ (c .before .iterate .ensures)) (lit< tt), (ready-step _ _ (c .before .iterate .ensures) (c .before .before .before .before .pre .1 .0), c .before .before .before .before .pre .1 .1))
 
   pub enum-known-r : lts.Need-enum-known-r cs (index-at t) index-reads.Post
   enum-known-r c = c .match .keys1
@@ -37,7 +37,7 @@ module _ (t : ℕ) where
 
   pub returns : lts.Need-returns cs (index-at t) index-reads.Post
   unfolding index item
-  returns c = (bounded-told (c .enum-told .given .1), λ from t zs left s e. rw (← (c .before .before .before .before .before .iterate .ensures)) (pass _ (c .before .before .before .before .behind .ensures .1 _ _ _ _ (stands-step _ _ (c .before .before .before .before .before .iterate .ensures) s)) (c .enum-told .given .1)))
+  returns c = (bounded-told (c .enum-told .given .1), λ from t zs left s e. rw (← (c .before .before .before .before .before .before .iterate .ensures)) (pass _ (c .before .before .before .before .behind .ensures .1 _ _ _ _ (stands-step _ _ (c .before .before .before .before .before .before .iterate .ensures) s)) (c .enum-told .given .1)))
 
   pub closed-requires : lts.Need-closed-requires cs (index-at t) index-reads.Post
   closed-requires c κs = let b = bounds (c .before .before .before .before .before .before .behind .ensures .0) (c .before .before .r .given .1) in (ready-same (c .before .before .before .before .before .before .before .before .before .before .before .pre .1 .0) (c .before .before .before .before .before .before .behind .kept .1 .0) (b .within), small (c .before .before .before .before .before .before .before .before .before .before .before .pre .1 .0))
@@ -49,7 +49,7 @@ module _ (t : ℕ) where
   unfolding index item closed
   returns-2 c =
       let b = bounds (c .before .before .before .before .before .before .before .before .before .behind .ensures .0) (c .before .before .before .before .before .r .given .1) in (
-        later (c .before .before .before .before .before .before .before .before .before .behind .kept .1 .0) (le-trans (on-step _ _ (c .before .before .before .before .before .before .before .before .before .before .iterate .ensures)) (b .on)) (c .before .before .closed .ensures .0),
-        λ from t zs left s e. let q = taken (c .before .before .before .before .before .before .before .before .before .behind .ensures .1 _ _ _ _ (stands-step _ _ (c .before .before .before .before .before .before .before .before .before .before .iterate .ensures) s)) (c .before .before .before .before .before .r .given .1) in
-            rw (← (c .before .before .before .before .before .before .before .before .before .before .iterate .ensures)) (by-eq (then-read _ (q .eq)) (c .before .before .closed .ensures .1 _ [] _ _ _ _ (q .stands) (record { few = tt; root = of-node; refs = (e, q .head, refl, refl) }))),
+        later (c .before .before .before .before .before .before .before .before .before .behind .kept .1 .0) (le-trans (on-step _ _ (c .before .before .before .before .before .before .before .before .before .before .before .iterate .ensures)) (b .on)) (c .before .before .closed .ensures .0),
+        λ from t zs left s e. let q = taken (c .before .before .before .before .before .before .before .before .before .behind .ensures .1 _ _ _ _ (stands-step _ _ (c .before .before .before .before .before .before .before .before .before .before .before .iterate .ensures) s)) (c .before .before .before .before .before .r .given .1) in
+            rw (← (c .before .before .before .before .before .before .before .before .before .before .before .iterate .ensures)) (by-eq (then-read _ (q .eq)) (c .before .before .closed .ensures .1 _ [] _ _ _ _ (q .stands) (record { few = tt; root = of-node; refs = (e, q .head, refl, refl) }))),
       )

@@ -10,8 +10,8 @@ use Rattle.grammar.specs.Tree as tree
 use Rattle.grammar.specs.Parsed.{read, _>>=_, build, ExpectedArrow}
 use Rattle.grammar.specs.Expressions.{Rec, expression, lambda}
 use Rattle.grammar.specs.Rules.{Rules}
-use Rattle.words.specs.declared.modes.Due.the-variants.{Always}
-use Rattle.words.specs.Modes.{by}
+use Rattle.modes.specs.declared.Due.the-variants.{Always}
+use Rattle.modes.specs.Modes.{by}
 use Rattle.parser.specs.Contracts.{item, items, closed-list}
 use Rattle.parser.specs.Meets.{of-node}
 use Rattle.parser.proofs.Answers.{taken, TakenOf, by-eq, refuses, need-met, need-failed, Starts, starts-at, starts-after, goes, pass-on}

@@ -39,8 +39,8 @@ module _ (t : ℕ) where
   abbrev cs : lts.Claims
   cs = (is-empty-reads.Asked, is-empty-reads.Learnt, iterate-reads.Asked, iterate-reads.Learnt, behind-below t, behind-reads.Post, entries-below t, entries-reads.Post)
 
-  read-1 : (c : lts.After-r cs (list-at t) list-reads.Post) → TakenOf (c .before .before .before .before .behind .ensures .1 _ [] _ _ (at-once _ _ (ready-step _ _ (c .before .before .before .before .before .iterate .ensures) (c .before .before .before .before .before .before .before .before .before .before .before .pre .1) .within))) (c .r .given .1)
-  read-1 c = taken (c .before .before .before .before .behind .ensures .1 _ [] _ _ (at-once _ _ (ready-step _ _ (c .before .before .before .before .before .iterate .ensures) (c .before .before .before .before .before .before .before .before .before .before .before .pre .1) .within))) (c .r .given .1)
+  read-1 : (c : lts.After-r cs (list-at t) list-reads.Post) → TakenOf (c .before .before .before .before .behind .ensures .1 _ [] _ _ (at-once _ _ (ready-step _ _ (c .before .before .before .before .before .before .iterate .ensures) (c .before .before .before .before .before .before .before .before .before .before .before .pre .1) .within))) (c .r .given .1)
+  read-1 c = taken (c .before .before .before .before .behind .ensures .1 _ [] _ _ (at-once _ _ (ready-step _ _ (c .before .before .before .before .before .before .iterate .ensures) (c .before .before .before .before .before .before .before .before .before .before .before .pre .1) .within))) (c .r .given .1)
 
   pub is-empty-requires : lts.Need-is-empty-requires cs (list-at t) list-reads.Post
   is-empty-requires c κs = search needs
@@ -52,7 +52,7 @@ module _ (t : ℕ) where
   iterate-requires c κs = search needs
 
   pub behind-requires : lts.Need-behind-requires cs (list-at t) list-reads.Post
-  behind-requires c κs = (falls _ _ _ _ _ _ _ (c .before .before .before .before .before .before .pre .0) (on-step _ _ (c .iterate .ensures)) (lit< tt), (ready-step _ _ (c .iterate .ensures) (c .before .before .before .before .before .before .pre .1), omega arith))
+  behind-requires c κs = (falls _ _ _ _ _ _ _ (c .before .before .before .before .before .before .pre .0) (on-step _ _ (c .before .iterate .ensures)) (lit< tt), (ready-step _ _ (c .before .iterate .ensures) (c .before .before .before .before .before .before .pre .1), omega arith))
 
   pub enum-known-r : lts.Need-enum-known-r cs (list-at t) list-reads.Post
   enum-known-r c = c .match .keys1
@@ -64,15 +64,15 @@ module _ (t : ℕ) where
   same-length c = c .before .before .before .before .behind .kept .1 .0
 
   pub returns-2 : lts.Need-returns-2 cs (list-at t) list-reads.Post
-  returns-2 c = by-eq (some _ _ _ _ _ _ (sym (c .before .before .before .before .before .before .before .before .is-empty .ensures) ∙ c .before .before .before .before .before .before .before .if1 .left)) (rw (← (c .before .before .before .before .before .iterate .ensures)) (pass _ (c .before .before .before .before .behind .ensures .1 _ [] _ _ (at-once _ _ (ready-step _ _ (c .before .before .before .before .before .iterate .ensures) (c .before .before .before .before .before .before .before .before .before .before .before .pre .1) .within))) (c .enum-told .given .1)))
+  returns-2 c = by-eq (some _ _ _ _ _ _ (sym (c .before .before .before .before .before .before .before .before .is-empty .ensures) ∙ c .before .before .before .before .before .before .before .if1 .left)) (rw (← (c .before .before .before .before .before .before .iterate .ensures)) (pass _ (c .before .before .before .before .behind .ensures .1 _ [] _ _ (at-once _ _ (ready-step _ _ (c .before .before .before .before .before .before .iterate .ensures) (c .before .before .before .before .before .before .before .before .before .before .before .pre .1) .within))) (c .enum-told .given .1)))
 
   pub entries-requires : lts.Need-entries-requires cs (list-at t) list-reads.Post
   entries-requires c κs =
-      (falls _ _ _ _ _ _ _ (c .before .before .before .before .before .before .before .before .before .before .before .before .before .pre .0) (le-trans (on-step _ _ (c .before .before .before .before .before .before .before .iterate .ensures)) (read-1 (c .before .before) .stands .on)) (lit< tt), (ready-same (c .before .before .before .before .before .before .before .before .before .before .before .before .before .pre .1) (c .before .before .before .before .before .before .behind .kept .1 .0) (read-1 (c .before .before) .stands .within), front-le (read-1 (c .before .before) .stands .front)))
+      (falls _ _ _ _ _ _ _ (c .before .before .before .before .before .before .before .before .before .before .before .before .before .pre .0) (le-trans (on-step _ _ (c .before .before .before .before .before .before .before .before .iterate .ensures)) (read-1 (c .before .before) .stands .on)) (lit< tt), (ready-same (c .before .before .before .before .before .before .before .before .before .before .before .before .before .pre .1) (c .before .before .before .before .before .before .behind .kept .1 .0) (read-1 (c .before .before) .stands .within), front-le (read-1 (c .before .before) .stands .front)))
 
   pub same-length-2 : lts.Need-same-length-2 cs (list-at t) list-reads.Post
   same-length-2 c = c .before .before .entries .kept .1 .0 ∙ c .before .before .before .before .before .before .before .before .before .behind .kept .1 .0
 
   pub returns-3 : lts.Need-returns-3 cs (list-at t) list-reads.Post
   returns-3 c =
-      sooner (on-step _ _ (c .before .before .before .before .before .before .before .before .before .before .iterate .ensures)) (by-eq (some _ _ _ _ _ _ (sym (c .before .before .before .before .before .before .before .before .before .before .before .before .before .is-empty .ensures) ∙ c .before .before .before .before .before .before .before .before .before .before .before .before .if1 .left)) (rw (← (c .before .before .before .before .before .before .before .before .before .before .iterate .ensures)) (by-eq (then-read _ (read-1 (c .before .before .before .before .before) .eq)) (c .before .before .entries .ensures .1 _ _ _ _ (read-1 (c .before .before .before .before .before) .stands) (read-1 (c .before .before .before .before .before) .head)))))
+      sooner (on-step _ _ (c .before .before .before .before .before .before .before .before .before .before .before .iterate .ensures)) (by-eq (some _ _ _ _ _ _ (sym (c .before .before .before .before .before .before .before .before .before .before .before .before .before .is-empty .ensures) ∙ c .before .before .before .before .before .before .before .before .before .before .before .before .if1 .left)) (rw (← (c .before .before .before .before .before .before .before .before .before .before .before .iterate .ensures)) (by-eq (then-read _ (read-1 (c .before .before .before .before .before) .eq)) (c .before .before .entries .ensures .1 _ _ _ _ (read-1 (c .before .before .before .before .before) .stands) (read-1 (c .before .before .before .before .before) .head)))))

@@ -20,11 +20,11 @@ module _ (t : ℕ) where
   iterate-requires c κs = search needs
 
   pub around-requires : lts.Need-around-requires cs (prefix-at t) prefix-reads.Post
-  around-requires c κs = (falls _ _ _ _ _ _ _ (c .before .before .before .before .pre .0) (on-step _ _ (c .iterate .ensures)) (lit< tt), (ready-step _ _ (c .iterate .ensures) (c .before .before .before .before .pre .1), small (c .before .before .before .before .pre .1)))
+  around-requires c κs = (falls _ _ _ _ _ _ _ (c .before .before .before .before .pre .0) (on-step _ _ (c .before .iterate .ensures)) (lit< tt), (ready-step _ _ (c .before .iterate .ensures) (c .before .before .before .before .pre .1), small (c .before .before .before .before .pre .1)))
 
   pub same-length : lts.Need-same-length cs (prefix-at t) prefix-reads.Post
   same-length c = c .before .before .around .kept .1 .0
 
   pub returns : lts.Need-returns cs (prefix-at t) prefix-reads.Post
   unfolding prefix around
-  returns c = sooner (on-step _ _ (c .before .before .before .iterate .ensures)) (rw (← (c .before .before .before .iterate .ensures)) (c .before .before .around .ensures))
+  returns c = sooner (on-step _ _ (c .before .before .before .before .iterate .ensures)) (rw (← (c .before .before .before .before .iterate .ensures)) (c .before .before .around .ensures))

@@ -28,7 +28,7 @@ module _ (t : ℕ) where
   iterate-requires-2 c κs = search needs
 
   pub around-requires : lts.Need-around-requires cs (shell-at t) shell-reads.Post
-  around-requires c κs = (falls _ _ _ _ _ _ _ (c .before .before .before .before .before .before .before .pre .0) (le-trans (on-step _ _ (c .before .before .before .before .iterate .ensures)) (on-step _ _ (c .iterate2 .ensures))) (lit< tt), (ready-step _ _ (c .iterate2 .ensures) (ready-step _ _ (c .before .before .before .before .iterate .ensures) (c .before .before .before .before .before .before .before .pre .1)), small (c .before .before .before .before .before .before .before .pre .1)))
+  around-requires c κs = (falls _ _ _ _ _ _ _ (c .before .before .before .before .before .before .before .pre .0) (le-trans (on-step _ _ (c .before .before .before .before .iterate .ensures)) (on-step _ _ (c .before .iterate2 .ensures))) (lit< tt), (ready-step _ _ (c .before .iterate2 .ensures) (ready-step _ _ (c .before .before .before .before .iterate .ensures) (c .before .before .before .before .before .before .before .pre .1)), small (c .before .before .before .before .before .before .before .pre .1)))
 
   pub same-length : lts.Need-same-length cs (shell-at t) shell-reads.Post
   same-length c = c .before .before .around .kept .1 .0
@@ -36,8 +36,8 @@ module _ (t : ℕ) where
   pub returns : lts.Need-returns cs (shell-at t) shell-reads.Post
   unfolding shell command around
   returns c =
-      sooner (on-step _ _ (c .before .before .before .before .before .before .before .iterate .ensures)) (sooner (on-step _ _ (c .before .before .before .iterate2 .ensures))
-      (by-eq (choose-true _ _ (sym (c .before .before .before .before .before .before .next-symbol-is .ensures) ∙ c .before .before .before .before .before .if1 .taken)) (rw (← (c .before .before .before .before .before .before .before .iterate .ensures), ← (c .before .before .before .iterate2 .ensures)) (c .before .before .around .ensures))))
+      sooner (on-step _ _ (c .before .before .before .before .before .before .before .iterate .ensures)) (sooner (on-step _ _ (c .before .before .before .before .iterate2 .ensures))
+      (by-eq (choose-true _ _ (sym (c .before .before .before .before .before .before .next-symbol-is .ensures) ∙ c .before .before .before .before .before .if1 .taken)) (rw (← (c .before .before .before .before .before .before .before .iterate .ensures), ← (c .before .before .before .before .iterate2 .ensures)) (c .before .before .around .ensures))))
 
   pub around-requires-2 : lts.Need-around-requires-2 cs (shell-at t) shell-reads.Post
   around-requires-2 c κs = (falls _ _ _ _ _ _ _ (c .before .before .before .before .before .before .pre .0) (on-step _ _ (c .before .before .before .iterate .ensures)) (lit< tt), (ready-step _ _ (c .before .before .before .iterate .ensures) (c .before .before .before .before .before .before .pre .1), small (c .before .before .before .before .before .before .pre .1)))

@@ -29,7 +29,7 @@ module _ (t : ℕ) where
   iterate-requires c κs = search needs
 
   pub expression-requires : lts.Need-expression-requires cs (started-at t) started-reads.Post
-  expression-requires c κs = (falls _ _ _ _ _ _ _ (c .before .before .before .before .pre .0) (on-step _ _ (c .iterate .ensures)) (lit< tt), ready-step _ _ (c .iterate .ensures) (c .before .before .before .before .pre .1))
+  expression-requires c κs = (falls _ _ _ _ _ _ _ (c .before .before .before .before .pre .0) (on-step _ _ (c .before .iterate .ensures)) (lit< tt), ready-step _ _ (c .before .iterate .ensures) (c .before .before .before .before .pre .1))
 
   pub enum-known-r : lts.Need-enum-known-r cs (started-at t) started-reads.Post
   enum-known-r c = c .match .keys1
@@ -42,7 +42,7 @@ module _ (t : ℕ) where
 
   pub returns : lts.Need-returns cs (started-at t) started-reads.Post
   unfolding started
-  returns c = rw (← (c .before .before .before .before .before .iterate .ensures)) (pass _ (c .before .before .before .before .expression .ensures) (c .enum-told .given .1))
+  returns c = rw (← (c .before .before .before .before .before .before .iterate .ensures)) (pass _ (c .before .before .before .before .expression .ensures) (c .enum-told .given .1))
 
   pub word-requires : lts.Need-word-requires cs (started-at t) started-reads.Post
   word-requires c κs = search needs
@@ -52,7 +52,7 @@ module _ (t : ℕ) where
 
   pub returns-2 : lts.Need-returns-2 cs (started-at t) started-reads.Post
   unfolding started
-  returns-2 c = refuses _ _ _ (rw (← (c .before .before .before .before .before .before .before .before .before .iterate .ensures)) (then-read _ (read-1 (c .before .before .before .before) .eq) ∙ need-failed _ _ _ (is-called _ (read-1 (c .before .before .before .before) .stands) ∙ ap (λ (n : ℕ). eqb n 11) (sym (c .before .word .ensures)) ∙ ne-eqb _ _ (c .if1 .taken))))
+  returns-2 c = refuses _ _ _ (rw (← (c .before .before .before .before .before .before .before .before .before .before .iterate .ensures)) (then-read _ (read-1 (c .before .before .before .before) .eq) ∙ need-failed _ _ _ (is-called _ (read-1 (c .before .before .before .before) .stands) ∙ ap (λ (n : ℕ). eqb n 11) (sym (c .before .word .ensures)) ∙ ne-eqb _ _ (c .if1 .taken))))
 
   pub mark-requires : lts.Need-mark-requires cs (started-at t) started-reads.Post
   mark-requires c κs = search needs
@@ -63,4 +63,4 @@ module _ (t : ℕ) where
   pub returns-3 : lts.Need-returns-3 cs (started-at t) started-reads.Post
   unfolding started
   returns-3 c =
-      sooner (on-step _ _ (c .before .before .before .before .before .before .before .before .before .before .before .before .before .iterate .ensures)) (by-eq (rw (← (c .before .before .before .before .before .before .before .before .before .before .before .before .before .iterate .ensures)) (then-read _ (read-1 (c .before .before .before .before .before .before .before .before) .eq) ∙ need-met _ _ _ (is-called _ (read-1 (c .before .before .before .before .before .before .before .before) .stands) ∙ ap (λ (n : ℕ). eqb n 11) (sym (c .before .before .before .before .before .word .ensures)) ∙ eq-eqb _ _ (c .before .before .before .before .if1 .left)))) (reads-marked _ _ (read-1 (c .before .before .before .before .before .before .before .before) .stands) (read-1 (c .before .before .before .before .before .before .before .before) .head) (c .before .before .mark .ensures)))
+      sooner (on-step _ _ (c .before .before .before .before .before .before .before .before .before .before .before .before .before .before .iterate .ensures)) (by-eq (rw (← (c .before .before .before .before .before .before .before .before .before .before .before .before .before .before .iterate .ensures)) (then-read _ (read-1 (c .before .before .before .before .before .before .before .before) .eq) ∙ need-met _ _ _ (is-called _ (read-1 (c .before .before .before .before .before .before .before .before) .stands) ∙ ap (λ (n : ℕ). eqb n 11) (sym (c .before .before .before .before .before .word .ensures)) ∙ eq-eqb _ _ (c .before .before .before .before .if1 .left)))) (reads-marked _ _ (read-1 (c .before .before .before .before .before .before .before .before) .stands) (read-1 (c .before .before .before .before .before .before .before .before) .head) (c .before .before .mark .ensures)))

@@ -18,7 +18,7 @@ use Rattle.tokens.specs.declared.Token.the-variants as token
 use Rattle.tokens.proofs.Arms.{keyword-arm}
 use Rattle.tokens.proofs.Tests.{but}
 use Rattle.grammar.specs.Rules.{Rules}
-use Rattle.words.specs.Modes.{by}
+use Rattle.modes.specs.Modes.{by}
 use Rattle.parser.specs.Contracts.{further, closed, around}
 use Rattle.parser.proofs.Answers.{by-eq, refuses, need-met, need-failed, sooner}
 use Rattle.parser.proofs.Moves.{falls, le-refl, on-step, ready-step, small}

@@ -12,7 +12,7 @@ use Rattle.grammar.specs.Parsed.{read, Reader, build, turns}
 use Rattle.grammar.specs.Expressions.{Rec, expression}
 use Rattle.grammar.specs.Statements.{statement, statements, block, opened}
 use Rattle.grammar.specs.Rules.{Rules}
-use Rattle.words.specs.Modes.{by}
+use Rattle.modes.specs.Modes.{by}
 use Rattle.parser.specs.Meets.{of-node}
 use Rattle.parser.proofs.Answers.{taken, TakenOf, by-eq, choose-true, choose-false, at-once, sooner, Starts, starts-at, starts-after, goes, pass-on}
 use Rattle.parser.proofs.Moves.{falls, fits-same, front-le, le-trans, on-step, ready-same, ready-step, stands-step, within-step}

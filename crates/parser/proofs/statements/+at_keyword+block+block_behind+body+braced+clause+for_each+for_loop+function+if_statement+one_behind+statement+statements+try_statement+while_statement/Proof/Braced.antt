@@ -9,7 +9,7 @@ use Rattle.parser.proofs.Moves.{falls, le-refl}
 use borrow.Author.Needs.{needs}
 use Rattle.parser.proofs.statements.block_behind.Reads as block-behind-reads
 use Rattle.parser.proofs.statements.braced.Reads as braced-reads
-use Rattle.words.proofs.comes.Reads as comes-reads
+use Rattle.modes.proofs.comes.Reads as comes-reads
 use Rattle.parser.proofs.statements.+at_keyword+block+block_behind+body+braced+clause+for_each+for_loop+function+if_statement+one_behind+statement+statements+try_statement+while_statement.Lts-braced as lts
 use Rattle.parser.proofs.statements.+at_keyword+block+block_behind+body+braced+clause+for_each+for_loop+function+if_statement+one_behind+statement+statements+try_statement+while_statement.Proof.Measures.{braced-at, block-behind-below}
 

@@ -10,8 +10,8 @@ use Rattle.grammar.specs.Parsed.{read, Reader, build, InvalidSyntax}
 use Rattle.grammar.specs.Expressions.{Rec, expression}
 use Rattle.grammar.specs.Statements.{statement, block, for}
 use Rattle.grammar.specs.Rules.{Rules}
-use Rattle.words.specs.declared.modes.Due.the-variants.{Always}
-use Rattle.words.specs.Modes.{by}
+use Rattle.modes.specs.declared.Due.the-variants.{Always}
+use Rattle.modes.specs.Modes.{by}
 use Rattle.parser.specs.Meets.{of-node}
 use Rattle.parser.specs.Contracts.{behind-sign, body}
 use Rattle.parser.proofs.Answers.{taken, TakenOf, by-eq, sooner, Starts, starts-at, goes, pass-on}
@@ -65,7 +65,7 @@ module _ (t : ℕ) where
   iterate-requires c κs = search needs
 
   pub expression-requires : lts.Need-expression-requires cs (for-loop-at t) for-loop-reads.Post
-  expression-requires c κs = ready-step _ _ (c .iterate .ensures) (c .before .before .before .before .pre .1)
+  expression-requires c κs = ready-step _ _ (c .before .iterate .ensures) (c .before .before .before .before .pre .1)
 
   pub enum-known-r0 : lts.Need-enum-known-r0 cs (for-loop-at t) for-loop-reads.Post
   enum-known-r0 c = c .match .keys1
@@ -77,7 +77,7 @@ module _ (t : ℕ) where
   same-length c = c .before .before .before .before .expression .kept .1 .0
 
   pub returns : lts.Need-returns cs (for-loop-at t) for-loop-reads.Post
-  returns c = pass-on (first (by (c .before .before .before .before .before .before .before .before .before .args .mode)) (c .before .before .before .before .before .before .before .before .before .args .tokens .now) (expression (by (c .before .before .before .before .before .before .before .before .before .args .mode)) (c .before .before .before .before .before .before .before .before .before .args .tokens .now) (c .before .before .before .before .before .before .before .before .before .args .less)) (statement (by (c .before .before .before .before .before .before .before .before .before .args .mode)) (c .before .before .before .before .before .before .before .before .before .args .tokens .now) (c .before .before .before .before .before .before .before .before .before .args .less)) _ _ (c .before .before .before .before .before .iterate .ensures)) (c .before .before .before .before .expression .ensures) (c .enum-told .given .1)
+  returns c = pass-on (first (by (c .before .before .before .before .before .before .before .before .before .args .mode)) (c .before .before .before .before .before .before .before .before .before .args .tokens .now) (expression (by (c .before .before .before .before .before .before .before .before .before .args .mode)) (c .before .before .before .before .before .before .before .before .before .args .tokens .now) (c .before .before .before .before .before .before .before .before .before .args .less)) (statement (by (c .before .before .before .before .before .before .before .before .before .args .mode)) (c .before .before .before .before .before .before .before .before .before .args .tokens .now) (c .before .before .before .before .before .before .before .before .before .args .less)) _ _ (c .before .before .before .before .before .before .iterate .ensures)) (c .before .before .before .before .expression .ensures) (c .enum-told .given .1)
 
   pub behind-sign-requires : lts.Need-behind-sign-requires cs (for-loop-at t) for-loop-reads.Post
   behind-sign-requires c κs = (ready-same (c .before .before .before .before .before .before .before .before .before .before .before .pre .1) (c .before .before .before .before .before .before .expression .kept .1 .0) (read-1 (c .before .before) .stands .within), front-le (read-1 (c .before .before) .stands .front))
@@ -92,11 +92,11 @@ module _ (t : ℕ) where
   same-length-2 c = c .before .before .before .before .behind-sign .kept .1 .0 ∙ c .before .before .before .before .before .before .before .before .before .before .before .expression .kept .1 .0
 
   pub returns-2 : lts.Need-returns-2 cs (for-loop-at t) for-loop-reads.Post
-  returns-2 c = pass-on (second (by (c .before .before .before .before .before .before .before .before .before .before .before .before .before .before .before .before .args .mode)) (c .before .before .before .before .before .before .before .before .before .before .before .before .before .before .before .before .args .tokens .now) (expression (by (c .before .before .before .before .before .before .before .before .before .before .before .before .before .before .before .before .args .mode)) (c .before .before .before .before .before .before .before .before .before .before .before .before .before .before .before .before .args .tokens .now) (c .before .before .before .before .before .before .before .before .before .before .before .before .before .before .before .before .args .less)) (statement (by (c .before .before .before .before .before .before .before .before .before .before .before .before .before .before .before .before .args .mode)) (c .before .before .before .before .before .before .before .before .before .before .before .before .before .before .before .before .args .tokens .now) (c .before .before .before .before .before .before .before .before .before .before .before .before .before .before .before .before .args .less)) _ _ (c .before .before .before .before .before .before .before .before .before .before .before .before .iterate .ensures) (read-1 (c .before .before .before .before .before .before .before) .eq)) (c .before .before .before .before .behind-sign .ensures .1 _ _ _ _ (read-1 (c .before .before .before .before .before .before .before) .stands)) (c .enum-told2 .given .1)
+  returns-2 c = pass-on (second (by (c .before .before .before .before .before .before .before .before .before .before .before .before .before .before .before .before .args .mode)) (c .before .before .before .before .before .before .before .before .before .before .before .before .before .before .before .before .args .tokens .now) (expression (by (c .before .before .before .before .before .before .before .before .before .before .before .before .before .before .before .before .args .mode)) (c .before .before .before .before .before .before .before .before .before .before .before .before .before .before .before .before .args .tokens .now) (c .before .before .before .before .before .before .before .before .before .before .before .before .before .before .before .before .args .less)) (statement (by (c .before .before .before .before .before .before .before .before .before .before .before .before .before .before .before .before .args .mode)) (c .before .before .before .before .before .before .before .before .before .before .before .before .before .before .before .before .args .tokens .now) (c .before .before .before .before .before .before .before .before .before .before .before .before .before .before .before .before .args .less)) _ _ (c .before .before .before .before .before .before .before .before .before .before .before .before .before .iterate .ensures) (read-1 (c .before .before .before .before .before .before .before) .eq)) (c .before .before .before .before .behind-sign .ensures .1 _ _ _ _ (read-1 (c .before .before .before .before .before .before .before) .stands)) (c .enum-told2 .given .1)
 
   pub body-requires : lts.Need-body-requires cs (for-loop-at t) for-loop-reads.Post
   body-requires c κs =
-      (falls _ _ _ _ _ _ _ (c .before .before .before .before .before .before .before .before .before .before .before .before .before .before .before .before .before .before .pre .0) (le-trans (on-step _ _ (c .before .before .before .before .before .before .before .before .before .before .before .before .before .before .iterate .ensures)) (read-2 (c .before .before) .stands .on)) (lit< tt), (ready-same (c .before .before .before .before .before .before .before .before .before .before .before .before .before .before .before .before .before .before .pre .1) (c .before .before .before .before .before .before .behind-sign .kept .1 .0 ∙ c .before .before .before .before .before .before .before .before .before .before .before .before .before .expression .kept .1 .0) (read-2 (c .before .before) .stands .within), front-le (read-2 (c .before .before) .stands .front)))
+      (falls _ _ _ _ _ _ _ (c .before .before .before .before .before .before .before .before .before .before .before .before .before .before .before .before .before .before .pre .0) (le-trans (on-step _ _ (c .before .before .before .before .before .before .before .before .before .before .before .before .before .before .before .iterate .ensures)) (read-2 (c .before .before) .stands .on)) (lit< tt), (ready-same (c .before .before .before .before .before .before .before .before .before .before .before .before .before .before .before .before .before .before .pre .1) (c .before .before .before .before .before .before .behind-sign .kept .1 .0 ∙ c .before .before .before .before .before .before .before .before .before .before .before .before .before .expression .kept .1 .0) (read-2 (c .before .before) .stands .within), front-le (read-2 (c .before .before) .stands .front)))
 
   pub enum-known-r2 : lts.Need-enum-known-r2 cs (for-loop-at t) for-loop-reads.Post
   enum-known-r2 c = c .match3 .keys1
@@ -108,7 +108,7 @@ module _ (t : ℕ) where
   same-length-3 c = c .before .before .before .before .body .kept .1 .0 ∙ c .before .before .before .before .before .before .before .before .before .before .before .behind-sign .kept .1 .0 ∙ c .before .before .before .before .before .before .before .before .before .before .before .before .before .before .before .before .before .before .expression .kept .1 .0
 
   pub returns-3 : lts.Need-returns-3 cs (for-loop-at t) for-loop-reads.Post
-  returns-3 c = pass-on (third (by (c .before .before .before .before .before .before .before .before .before .before .before .before .before .before .before .before .before .before .before .before .before .before .before .args .mode)) (c .before .before .before .before .before .before .before .before .before .before .before .before .before .before .before .before .before .before .before .before .before .before .before .args .tokens .now) (expression (by (c .before .before .before .before .before .before .before .before .before .before .before .before .before .before .before .before .before .before .before .before .before .before .before .args .mode)) (c .before .before .before .before .before .before .before .before .before .before .before .before .before .before .before .before .before .before .before .before .before .before .before .args .tokens .now) (c .before .before .before .before .before .before .before .before .before .before .before .before .before .before .before .before .before .before .before .before .before .before .before .args .less)) (statement (by (c .before .before .before .before .before .before .before .before .before .before .before .before .before .before .before .before .before .before .before .before .before .before .before .args .mode)) (c .before .before .before .before .before .before .before .before .before .before .before .before .before .before .before .before .before .before .before .before .before .before .before .args .tokens .now) (c .before .before .before .before .before .before .before .before .before .before .before .before .before .before .before .before .before .before .before .before .before .before .before .args .less)) _ _ (c .before .before .before .before .before .before .before .before .before .before .before .before .before .before .before .before .before .before .before .iterate .ensures) (read-1 (c .before .before .before .before .before .before .before .before .before .before .before .before .before .before) .eq) (read-2 (c .before .before .before .before .before .before .before) .eq)) (c .before .before .before .before .body .ensures .1 _ _ _ _ (read-2 (c .before .before .before .before .before .before .before) .stands)) (c .enum-told3 .given .1)
+  returns-3 c = pass-on (third (by (c .before .before .before .before .before .before .before .before .before .before .before .before .before .before .before .before .before .before .before .before .before .before .before .args .mode)) (c .before .before .before .before .before .before .before .before .before .before .before .before .before .before .before .before .before .before .before .before .before .before .before .args .tokens .now) (expression (by (c .before .before .before .before .before .before .before .before .before .before .before .before .before .before .before .before .before .before .before .before .before .before .before .args .mode)) (c .before .before .before .before .before .before .before .before .before .before .before .before .before .before .before .before .before .before .before .before .before .before .before .args .tokens .now) (c .before .before .before .before .before .before .before .before .before .before .before .before .before .before .before .before .before .before .before .before .before .before .before .args .less)) (statement (by (c .before .before .before .before .before .before .before .before .before .before .before .before .before .before .before .before .before .before .before .before .before .before .before .args .mode)) (c .before .before .before .before .before .before .before .before .before .before .before .before .before .before .before .before .before .before .before .before .before .before .before .args .tokens .now) (c .before .before .before .before .before .before .before .before .before .before .before .before .before .before .before .before .before .before .before .before .before .before .before .args .less)) _ _ (c .before .before .before .before .before .before .before .before .before .before .before .before .before .before .before .before .before .before .before .before .iterate .ensures) (read-1 (c .before .before .before .before .before .before .before .before .before .before .before .before .before .before) .eq) (read-2 (c .before .before .before .before .before .before .before) .eq)) (c .before .before .before .before .body .ensures .1 _ _ _ _ (read-2 (c .before .before .before .before .before .before .before) .stands)) (c .enum-told3 .given .1)
 
   pub put-row-requires : lts.Need-put-row-requires cs (for-loop-at t) for-loop-reads.Post
   put-row-requires c κs = (fits-same _ _ _ (c .before .before .before .before .before .before .before .before .before .before .before .before .before .before .before .before .before .before .before .before .before .before .before .before .before .pre .1 .fits) (c .before .before .before .before .before .before .body .kept .1 .0 ∙ c .before .before .before .before .before .before .before .before .before .before .before .before .before .behind-sign .kept .1 .0 ∙ c .before .before .before .before .before .before .before .before .before .before .before .before .before .before .before .before .before .before .before .before .expression .kept .1 .0), small (c .before .before .before .before .before .before .before .before .before .before .before .before .before .before .before .before .before .before .before .before .before .before .before .before .before .pre .1))
@@ -118,5 +118,5 @@ module _ (t : ℕ) where
 
   pub returns-4 : lts.Need-returns-4 cs (for-loop-at t) for-loop-reads.Post
   returns-4 c =
-      sooner (on-step _ _ (c .before .before .before .before .before .before .before .before .before .before .before .before .before .before .before .before .before .before .before .before .before .before .before .before .iterate .ensures)) (by-eq (ended (by (c .before .before .before .before .before .before .before .before .before .before .before .before .before .before .before .before .before .before .before .before .before .before .before .before .before .before .before .before .args .mode)) (c .before .before .before .before .before .before .before .before .before .before .before .before .before .before .before .before .before .before .before .before .before .before .before .before .before .before .before .before .args .tokens .now) (expression (by (c .before .before .before .before .before .before .before .before .before .before .before .before .before .before .before .before .before .before .before .before .before .before .before .before .before .before .before .before .args .mode)) (c .before .before .before .before .before .before .before .before .before .before .before .before .before .before .before .before .before .before .before .before .before .before .before .before .before .before .before .before .args .tokens .now) (c .before .before .before .before .before .before .before .before .before .before .before .before .before .before .before .before .before .before .before .before .before .before .before .before .before .before .before .before .args .less)) (statement (by (c .before .before .before .before .before .before .before .before .before .before .before .before .before .before .before .before .before .before .before .before .before .before .before .before .before .before .before .before .args .mode)) (c .before .before .before .before .before .before .before .before .before .before .before .before .before .before .before .before .before .before .before .before .before .before .before .before .before .before .before .before .args .tokens .now) (c .before .before .before .before .before .before .before .before .before .before .before .before .before .before .before .before .before .before .before .before .before .before .before .before .before .before .before .before .args .less)) _ _ (c .before .before .before .before .before .before .before .before .before .before .before .before .before .before .before .before .before .before .before .before .before .before .before .before .iterate .ensures) (read-1 (c .before .before .before .before .before .before .before .before .before .before .before .before .before .before .before .before .before .before .before) .eq) (read-2 (c .before .before .before .before .before .before .before .before .before .before .before .before) .eq) (read-3 (c .before .before .before .before .before) .eq))
+      sooner (on-step _ _ (c .before .before .before .before .before .before .before .before .before .before .before .before .before .before .before .before .before .before .before .before .before .before .before .before .before .iterate .ensures)) (by-eq (ended (by (c .before .before .before .before .before .before .before .before .before .before .before .before .before .before .before .before .before .before .before .before .before .before .before .before .before .before .before .before .args .mode)) (c .before .before .before .before .before .before .before .before .before .before .before .before .before .before .before .before .before .before .before .before .before .before .before .before .before .before .before .before .args .tokens .now) (expression (by (c .before .before .before .before .before .before .before .before .before .before .before .before .before .before .before .before .before .before .before .before .before .before .before .before .before .before .before .before .args .mode)) (c .before .before .before .before .before .before .before .before .before .before .before .before .before .before .before .before .before .before .before .before .before .before .before .before .before .before .before .before .args .tokens .now) (c .before .before .before .before .before .before .before .before .before .before .before .before .before .before .before .before .before .before .before .before .before .before .before .before .before .before .before .before .args .less)) (statement (by (c .before .before .before .before .before .before .before .before .before .before .before .before .before .before .before .before .before .before .before .before .before .before .before .before .before .before .before .before .args .mode)) (c .before .before .before .before .before .before .before .before .before .before .before .before .before .before .before .before .before .before .before .before .before .before .before .before .before .before .before .before .args .tokens .now) (c .before .before .before .before .before .before .before .before .before .before .before .before .before .before .before .before .before .before .before .before .before .before .before .before .before .before .before .before .args .less)) _ _ (c .before .before .before .before .before .before .before .before .before .before .before .before .before .before .before .before .before .before .before .before .before .before .before .before .before .iterate .ensures) (read-1 (c .before .before .before .before .before .before .before .before .before .before .before .before .before .before .before .before .before .before .before) .eq) (read-2 (c .before .before .before .before .before .before .before .before .before .before .before .before) .eq) (read-3 (c .before .before .before .before .before) .eq))
       (c .before .before .put-row .ensures (c .before .before .before .before .before .before .before .before .before .before .before .before .before .before .before .before .before .before .before .before .before .before .before .before .before .before .before .before .args .tokens .now) (read-3 (c .before .before .before .before .before) .stands .within) .1 _ [] _ _ _ _ (read-3 (c .before .before .before .before .before) .stands) (record { few = tt; root = of-node; refs = (read-1 (c .before .before .before .before .before .before .before .before .before .before .before .before .before .before .before .before .before .before .before) .head, read-2 (c .before .before .before .before .before .before .before .before .before .before .before .before) .head, read-3 (c .before .before .before .before .before) .head, refl) })))

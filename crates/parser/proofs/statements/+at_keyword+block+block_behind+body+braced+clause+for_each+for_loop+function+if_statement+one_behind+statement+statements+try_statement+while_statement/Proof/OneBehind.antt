@@ -3,7 +3,7 @@ use lib.Dec.{lit<}
 use Prim.Native.Nat.{ℕ}
 use native.Mathlib.Omega.{arith}
 use Rattle.grammar.specs.Statements.{statement}
-use Rattle.words.specs.Modes.{by}
+use Rattle.modes.specs.Modes.{by}
 use Rattle.parser.proofs.Answers.{taken, TakenOf, bounded-tree, bounded-told}
 use Rattle.parser.proofs.Ends.{not-at-end, begun-told}
 use Rattle.parser.proofs.Parts.{ready-lent, in-part, back-read, back-refused, back-same, part-length}

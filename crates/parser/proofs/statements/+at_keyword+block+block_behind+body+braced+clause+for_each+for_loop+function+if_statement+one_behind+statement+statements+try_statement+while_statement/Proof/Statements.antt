@@ -13,7 +13,7 @@ use Rattle.grammar.specs.Statements.{statement, statements}
 use Rattle.tokens.specs.Tokens.{word}
 use Rattle.tokens.specs.declared.Token.{Token}
 use Rattle.grammar.specs.Rules.{Rules}
-use Rattle.words.specs.Modes.{by}
+use Rattle.modes.specs.Modes.{by}
 use Rattle.parser.specs.Meets.{Stands, many}
 use Rattle.parser.proofs.Answers.{bounds, bounded-tree, bounded-told, taken, pass, by-eq, choose-true, choose-false, then-read}
 use Rattle.parser.proofs.Ends.{begins, passes}

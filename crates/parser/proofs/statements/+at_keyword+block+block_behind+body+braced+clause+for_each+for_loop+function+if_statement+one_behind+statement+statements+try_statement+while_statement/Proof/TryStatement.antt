@@ -11,8 +11,8 @@ use Rattle.grammar.specs.Parsed.{read, Reader, build, InvalidSyntax, TryWithout
 use Rattle.grammar.specs.Expressions.{Rec, expression}
 use Rattle.grammar.specs.Statements.{statement, block, finally, try}
 use Rattle.grammar.specs.Rules.{Rules}
-use Rattle.words.specs.declared.modes.Due.the-variants.{Always}
-use Rattle.words.specs.Modes.{by}
+use Rattle.modes.specs.declared.Due.the-variants.{Always}
+use Rattle.modes.specs.Modes.{by}
 use Rattle.parser.specs.Meets.{of-node}
 use Rattle.parser.specs.Contracts.{behind-sign, braced}
 use Rattle.parser.proofs.Answers.{at-once, taken, TakenOf, by-eq, Starts, goes, pass-on}

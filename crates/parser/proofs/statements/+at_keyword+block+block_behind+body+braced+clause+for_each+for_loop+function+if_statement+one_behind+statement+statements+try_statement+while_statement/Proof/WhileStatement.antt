@@ -11,9 +11,9 @@ use Rattle.grammar.specs.Tree as tree
 use Rattle.grammar.specs.Parsed.{read, Reader, build, InvalidSyntax, WrongSign}
 use Rattle.grammar.specs.Expressions.{Rec, expression}
 use Rattle.grammar.specs.Statements.{statement, block, while}
-use Rattle.words.specs.declared.modes.Mode.{Mode}
-use Rattle.words.specs.declared.modes.Due.the-variants.{By}
-use Rattle.words.specs.Modes.{by}
+use Rattle.modes.specs.declared.Mode.{Mode}
+use Rattle.modes.specs.declared.Due.the-variants.{By}
+use Rattle.modes.specs.Modes.{by}
 use Rattle.parser.specs.Meets.{of-node}
 use Rattle.parser.specs.Contracts.{body}
 use Rattle.parser.proofs.Answers.{taken, TakenOf, by-eq, refuses, need-met, need-failed, sooner, Starts, starts-at, starts-after, goes, pass-on}

@@ -1,11 +1,10 @@
 // The mode of reading, and the signs that it asks for.
-use crate::places::Cursor;
-use crate::places::next_symbol_is;
 use tokens::Symbol;
+use words::Cursor;
 ghost use mathlib.Core.Path.{_≡_};
 ghost use Rattle.tokens.specs.Tokens.{word};
 ghost use Rattle.tokens.specs.declared.Token.the-variants as token;
-ghost use Rattle.words.specs.Modes.{chosen, asked, comes};
+ghost use Rattle.modes.specs.Modes.{chosen, asked, comes};
 
 // The original's rules; or strict ones, by which a call with arguments must be closed, and the bodies of while, foreach and
 // finally opened, by the right sign.
@@ -45,7 +44,7 @@ pub fn comes(tokens: &[u16], c: Cursor, s: Symbol, due: Due) -> bool
     ensures { λ r. ⌜ r ≡ comes due (now (tokens .entry)) c (word (token.Operator s)) ⌝ }
 {
     if is_due(due) {
-        return next_symbol_is(tokens, c, s);
+        return words::next_symbol_is(tokens, c, s);
     }
     true
 }

@@ -1,7 +1,7 @@
--- `words::is_due` meets its contract: a sign is due always, or in strict mode. Assumes nothing.
+-- `modes::is_due` meets its contract: a sign is due always, or in strict mode. Assumes nothing.
 use borrow.Author.Needs.{needs}
-use Rattle.words.proofs.modes.is_due.Statement.{statement}
-use Rattle.words.proofs.modes.is_due.Tie as tie
+use Rattle.modes.proofs.is_due.Statement.{statement}
+use Rattle.modes.proofs.is_due.Tie as tie
 
 enum-told : tie.Need-enum-told
 enum-told c = search needs

@@ -4,10 +4,10 @@ use mathlib.Core.Bool.{Bool, true, false}
 use mathlib.Core.List.{List}
 use Rattle.grammar.specs.Words.{next-is}
 use Rattle.grammar.specs.Rules.{Rules, fits}
-use Rattle.words.specs.declared.modes.Mode.{Mode}
-use Rattle.words.specs.declared.modes.Mode.the-variants.{Old, Strict}
-use Rattle.words.specs.declared.modes.Due.{Due}
-use Rattle.words.specs.declared.modes.Due.the-variants.{Always, By}
+use Rattle.modes.specs.declared.Mode.{Mode}
+use Rattle.modes.specs.declared.Mode.the-variants.{Old, Strict}
+use Rattle.modes.specs.declared.Due.{Due}
+use Rattle.modes.specs.declared.Due.the-variants.{Always, By}
 
 -- Whether a mode is strict.
 abbrev pub is-strict : Mode → Bool

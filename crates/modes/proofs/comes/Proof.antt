@@ -1,4 +1,4 @@
--- `words::comes` meets its contract: whether a sign comes next, or that none is asked for. Assumes nothing.
+-- `modes::comes` meets its contract: whether a sign comes next, or that none is asked for. Assumes nothing.
 use borrow.Author.Needs.{needs}
 use Prim.Native.Nat.{ℕ}
 use mathlib.Core.Path.{_≡_, refl, sym, _∙_}
@@ -8,12 +8,12 @@ use Rattle.grammar.specs.Words.{next-is}
 use Rattle.grammar.specs.Rules.{fits}
 use Rattle.tokens.specs.Tokens.{word}
 use Rattle.tokens.specs.declared.Token.the-variants as token
-use Rattle.words.specs.declared.modes.Mode.the-variants.{Old, Strict}
-use Rattle.words.specs.declared.modes.Due.{Due}
-use Rattle.words.specs.declared.modes.Due.the-variants.{Always, By}
-use Rattle.words.specs.Modes.{asked, comes}
-use Rattle.words.proofs.modes.comes.Statement.{statement}
-use Rattle.words.proofs.modes.comes.Tie as tie
+use Rattle.modes.specs.declared.Mode.the-variants.{Old, Strict}
+use Rattle.modes.specs.declared.Due.{Due}
+use Rattle.modes.specs.declared.Due.the-variants.{Always, By}
+use Rattle.modes.specs.Modes.{asked, comes}
+use Rattle.modes.proofs.comes.Statement.{statement}
+use Rattle.modes.proofs.comes.Tie as tie
 
 -- Where a sign is due it is looked for, and else nothing is.
 looked-for : (due : Due) (ts : List ℕ) (at w : ℕ) → asked due ≡ true → comes due ts at w ≡ next-is ts at w
