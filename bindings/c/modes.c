@@ -5,7 +5,7 @@
 #include <stdlib.h>
 #include <string.h>
 
-#include "shigthapul.h"
+#include "spelled.h"
 
 enum { TOKENS = 32, POOL = SHIGTHAPUL_TOKEN_WORDS * TOKENS, MODES = 2 };
 
@@ -40,13 +40,8 @@ static uint16_t word_of(const char *text) {
         return (uint16_t)strtoul(text + 1, NULL, 16);
     if (strcmp(text, "_E") == 0)
         return shigthapul_word(SHIGTHAPUL_CLASS_EMPTY, 0);
-    for (unsigned code = SHIGTHAPUL_SPlus; code <= SHIGTHAPUL_SDollar; code++)
-        if (strcmp(text, shigthapul_symbol_text(code)) == 0)
-            return shigthapul_word(SHIGTHAPUL_CLASS_OPERATOR, code);
-    for (unsigned code = SHIGTHAPUL_KIf; code <= SHIGTHAPUL_KAsync; code++)
-        if (strcmp(text, shigthapul_keyword_text(code)) == 0)
-            return shigthapul_word(SHIGTHAPUL_CLASS_KEYWORD, code);
-    return shigthapul_word(SHIGTHAPUL_CLASS_IDENTIFIER, 0);
+    uint16_t word = spelled(text);
+    return word != 0 ? word : shigthapul_word(SHIGTHAPUL_CLASS_IDENTIFIER, 0);
 }
 
 /* Takes an example apart: the entry, behind a stroke its rows where they are few, and the tokens, EOF last. */

@@ -5,7 +5,7 @@
 #include <stdbool.h>
 #include <string.h>
 
-#include "shigthapul.h"
+#include "spelled.h"
 
 enum kind { AN_EXPRESSION, A_STATEMENT };
 
@@ -154,16 +154,11 @@ static uint16_t word_of(const char *text) {
         {"1", SHIGTHAPUL_CLASS_INTEGER}, {"1.5", SHIGTHAPUL_CLASS_FLOAT}, {"'c'", SHIGTHAPUL_CLASS_CHAR},
         {"\"s\"", SHIGTHAPUL_CLASS_STR}, {"_E", SHIGTHAPUL_CLASS_EMPTY}, {"_I", SHIGTHAPUL_CLASS_INVALID},
     };
-    for (unsigned code = SHIGTHAPUL_SPlus; code <= SHIGTHAPUL_SDollar; code++)
-        if (strcmp(text, shigthapul_symbol_text(code)) == 0)
-            return shigthapul_word(SHIGTHAPUL_CLASS_OPERATOR, code);
-    for (unsigned code = SHIGTHAPUL_KIf; code <= SHIGTHAPUL_KAsync; code++)
-        if (strcmp(text, shigthapul_keyword_text(code)) == 0)
-            return shigthapul_word(SHIGTHAPUL_CLASS_KEYWORD, code);
     for (size_t other = 0; other < COUNT(OTHERS); other++)
         if (strcmp(text, OTHERS[other].text) == 0)
             return shigthapul_word(OTHERS[other].token_class, 0);
-    return shigthapul_word(SHIGTHAPUL_CLASS_IDENTIFIER, 0);
+    uint16_t word = spelled(text);
+    return word != 0 ? word : shigthapul_word(SHIGTHAPUL_CLASS_IDENTIFIER, 0);
 }
 
 /* The words of a text, whose tokens stand between blanks. */
