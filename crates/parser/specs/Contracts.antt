@@ -105,7 +105,7 @@ body due ts block sign missing bare at room = do
   need (next-is ts at sign) missing at
   braced due ts block bare (step ts at) room
 
--- A name and its value; or a name alone, but not for const.
+-- A name and its value, in a row of this kind; or a name alone, but not for const, whose kind is 35.
 unfoldable pub var-or-const : (rules : Rules) (ts : List ℕ) (expr : Rec) (stmt : Reader Trees) (kind : ℕ) → Reader Tree
 var-or-const rules ts expr stmt kind name room = do
   need (is ts name Identifier) InvalidIdentifier name
