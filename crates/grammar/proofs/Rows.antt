@@ -21,23 +21,23 @@ use Rattle.grammar.proofs.Laws.{expression-entry, statement-entry, scri
 mutual
   unfolding lay
 
-  length-lay : (t : Tree) (first next : ℕ) → length (lay t first next) ≡ width * size t
+  pub length-lay : (t : Tree) (first next : ℕ) → length (lay t first next) ≡ width * size t
   length-lay (infixed m p l r) first next = simp length-append (omega (arith, length-lay l first 0, length-lay r (first + size l) 0))
   length-lay (node k m p a b c d) first next =
       let i = first + sizes a in
       let j = i + sizes b in
       simp length-append (omega (arith, length-lays a first, length-lays b i, length-lays c j, length-lays d (j + sizes c)))
 
-  length-lays : (ts : Trees) (first : ℕ) → length (lays ts first) ≡ width * sizes ts
+  pub length-lays : (ts : Trees) (first : ℕ) → length (lays ts first) ≡ width * sizes ts
   length-lays nil first = refl
   length-lays (t ▸ ts) first = simp length-append (omega (arith, length-lay t first (head-ref ts (first + size t)), length-lays ts (first + size t)))
 
 -- The words vs stand in ws from row i on.
-record Held (ws : List ℕ) (i : ℕ) (vs : List ℕ) : Type 0 where
-  before : List ℕ
-  after : List ℕ
-  whole : ws ≡ before ++ (vs ++ after)
-  seat : length before ≡ width * i
+pub record Held (ws : List ℕ) (i : ℕ) (vs : List ℕ) : Type 0 where
+  pub before : List ℕ
+  pub after : List ℕ
+  pub whole : ws ≡ before ++ (vs ++ after)
+  pub seat : length before ≡ width * i
 
 module _ {ws : List ℕ} {i : ℕ} where
   held-split : (xs ys : List ℕ) (n : ℕ) → length xs ≡ width * n → Held ws i (xs ++ ys) → Held ws i xs × Held ws (i + n) ys
@@ -52,33 +52,39 @@ module _ {ws : List ℕ} {i : ℕ} where
       ∙ rw (← h .seat) (getD-append-add (h .before) (vs ++ h .after) k 0)
       ∙ List·getD-append vs (h .after) 0 k lt
 
--- The words of a row that its rule speaks of.
-record Holds (ws : List ℕ) (reference kind mark place left right : ℕ) : Type 0 where
-  kind-word : word-of ws reference 0 ≡ kind
-  mark-word : word-of ws reference 1 ≡ mark
-  place-word : word-of ws reference 2 ≡ place
-  left-word : word-of ws reference 3 ≡ left
-  right-word : word-of ws reference 4 ≡ right
+-- The words of a row.
+pub record Holds (ws : List ℕ) (reference kind mark place c0 c1 c2 c3 next : ℕ) : Type 0 where
+  pub kind-word : word-of ws reference 0 ≡ kind
+  pub mark-word : word-of ws reference 1 ≡ mark
+  pub place-word : word-of ws reference 2 ≡ place
+  pub c0-word : word-of ws reference 3 ≡ c0
+  pub c1-word : word-of ws reference 4 ≡ c1
+  pub c2-word : word-of ws reference 5 ≡ c2
+  pub c3-word : word-of ws reference 6 ≡ c3
+  pub next-word : word-of ws reference 7 ≡ next
 
-row-holds : {ws : List ℕ} (i reference k m p a b c d n : ℕ) → i + 1 ≡ reference → Held ws i (row k m p a b c d n) → Holds ws reference k m p a b
+row-holds : {ws : List ℕ} (i reference k m p a b c d n : ℕ) → i + 1 ≡ reference → Held ws i (row k m p a b c d n) → Holds ws reference k m p a b c d n
 row-holds {ws} i r k m p a b c d n e h =
     let q : r - 1 ≡ i = omega arith in
     record {
       kind-word = rw q (held-word 0 (omega arith) h);
       mark-word = rw q (held-word 1 (omega arith) h);
       place-word = rw q (held-word 2 (omega arith) h);
-      left-word = rw q (held-word 3 (omega arith) h);
-      right-word = rw q (held-word 4 (omega arith) h);
+      c0-word = rw q (held-word 3 (omega arith) h);
+      c1-word = rw q (held-word 4 (omega arith) h);
+      c2-word = rw q (held-word 5 (omega arith) h);
+      c3-word = rw q (held-word 6 (omega arith) h);
+      next-word = rw q (held-word 7 (omega arith) h);
     }
 
 module _ (ws : List ℕ) where
   -- Where the sides of an infix row stand, and what the row itself holds.
-  record Two (m p : ℕ) (l r : Tree) (first : ℕ) : Type 0 where
-    left : Held ws first (lay l first 0)
-    right : Held ws (first + size l) (lay r (first + size l) 0)
-    own : Holds ws (first + size (infixed m p l r)) 12 m p (first + size l) (first + size l + size r)
+  pub record Two (m p : ℕ) (l r : Tree) (first next : ℕ) : Type 0 where
+    pub left : Held ws first (lay l first 0)
+    pub right : Held ws (first + size l) (lay r (first + size l) 0)
+    pub own : Holds ws (first + size (infixed m p l r)) 12 m p (first + size l) (first + size l + size r) 0 0 next
 
-  two : (m p : ℕ) (l r : Tree) (first next : ℕ) → Held ws first (lay (infixed m p l r) first next) → Two m p l r first
+  pub two : (m p : ℕ) (l r : Tree) (first next : ℕ) → Held ws first (lay (infixed m p l r) first next) → Two m p l r first next
   unfolding lay
   two m p l r first next h =
       let R : List ℕ = row 12 m p (first + size l) (first + size l + size r) 0 0 next in
@@ -86,15 +92,16 @@ module _ (ws : List ℕ) where
       let y = held-split (lay r (first + size l) 0) R (size r) (length-lay r (first + size l) 0) (x .1) in
       record { left = x .0; right = y .0; own = row-holds (first + size l + size r) (first + size (infixed m p l r)) 12 m p _ _ 0 0 next (omega arith) (y .1) }
 
-  -- Where the slots of another row stand, and what its kind is.
-  record Four (k : ℕ) (a b c d : Trees) (first : ℕ) : Type 0 where
-    c0 : Held ws first (lays a first)
-    c1 : Held ws (first + sizes a) (lays b (first + sizes a))
-    c2 : Held ws (first + sizes a + sizes b) (lays c (first + sizes a + sizes b))
-    c3 : Held ws (first + sizes a + sizes b + sizes c) (lays d (first + sizes a + sizes b + sizes c))
-    own : word-of ws (first + (sizes a + sizes b + sizes c + sizes d + 1)) 0 ≡ k
+  -- Where the slots of another row stand, and what the row itself holds.
+  pub record Four (k m p : ℕ) (a b c d : Trees) (first next : ℕ) : Type 0 where
+    pub c0 : Held ws first (lays a first)
+    pub c1 : Held ws (first + sizes a) (lays b (first + sizes a))
+    pub c2 : Held ws (first + sizes a + sizes b) (lays c (first + sizes a + sizes b))
+    pub c3 : Held ws (first + sizes a + sizes b + sizes c) (lays d (first + sizes a + sizes b + sizes c))
+    pub own : Holds ws (first + (sizes a + sizes b + sizes c + sizes d + 1)) k m p (head-ref a first) (head-ref b (first + sizes a))
+        (head-ref c (first + sizes a + sizes b)) (head-ref d (first + sizes a + sizes b + sizes c)) next
 
-  four : (k m p : ℕ) (a b c d : Trees) (first next : ℕ) → Held ws first (lay (node k m p a b c d) first next) → Four k a b c d first
+  pub four : (k m p : ℕ) (a b c d : Trees) (first next : ℕ) → Held ws first (lay (node k m p a b c d) first next) → Four k m p a b c d first next
   unfolding lay
   four k m p a b c d first next h =
       let i = first + sizes a in
@@ -107,9 +114,9 @@ module _ (ws : List ℕ) where
       let z = held-split (lays c j) (lays d n ++ R) (sizes c) (length-lays c j) (y .1) in
       let w = held-split (lays d n) R (sizes d) (length-lays d n) (z .1) in
       let o = row-holds (n + sizes d) (first + (sizes a + sizes b + sizes c + sizes d + 1)) k m p _ _ _ _ next (omega arith) (w .1) in
-      record { c0 = x .0; c1 = y .0; c2 = z .0; c3 = w .0; own = o .kind-word }
+      record { c0 = x .0; c1 = y .0; c2 = z .0; c3 = w .0; own = o }
 
-  more : (t : Tree) (ts : Trees) (first : ℕ) → Held ws first (lays (t ▸ ts) first)
+  pub more : (t : Tree) (ts : Trees) (first : ℕ) → Held ws first (lays (t ▸ ts) first)
       → Held ws first (lay t first (head-ref ts (first + size t))) × Held ws (first + size t) (lays ts (first + size t))
   unfolding lays
   more t ts first h =
@@ -122,15 +129,15 @@ module _ (ts ws : List ℕ) where
 
   binds-row : (n : ℕ) (t : Tree) (first next : ℕ) → Held ws first (lay t first next) → Every (KeepsBut ts) t → Binds ts n t → RowBinds ts ws n (first + size t)
   binds-row n (infixed m p l r) first next h k b = λ e lt. let o = two ws m p l r first next h .own in rw (o .place-word) (b (omega (arith, o .mark-word)))
-  binds-row n (node kd m p c0 c1 c2 c3) first next h k b = λ e lt. absurd (no-infix-row kd _ (four ws kd m p c0 c1 c2 c3 first next h .own) (k .0) e)
+  binds-row n (node kd m p c0 c1 c2 c3) first next h k b = λ e lt. absurd (no-infix-row kd _ (four ws kd m p c0 c1 c2 c3 first next h .own .kind-word) (k .0) e)
 
-  own-row : (m p : ℕ) (l r : Tree) (first : ℕ) → Two ws m p l r first → Every (KeepsBut ts) (infixed m p l r) → RowRuled ts ws (first + size (infixed m p l r))
-  own-row m p l r first w k =
+  own-row : (m p : ℕ) (l r : Tree) (first next : ℕ) → Two ws m p l r first next → Every (KeepsBut ts) (infixed m p l r) → RowRuled ts ws (first + size (infixed m p l r))
+  own-row m p l r first next w k =
       let o = w .own in
       record {
         sign = rw (o .place-word, o .mark-word) (k .0 .sign);
-        looser = rw (o .place-word, o .left-word) (⊎-map (binds-row _ l first 0 (w .left) (k .1)) (λ s. s) (k .0 .looser));
-        tighter = rw (o .place-word, o .right-word) (binds-row _ r (first + size l) 0 (w .right) (k .2) (k .0 .tighter));
+        looser = rw (o .place-word, o .c0-word) (⊎-map (binds-row _ l first 0 (w .left) (k .1)) (λ s. s) (k .0 .looser));
+        tighter = rw (o .place-word, o .c1-word) (binds-row _ r (first + size l) 0 (w .right) (k .2) (k .0 .tighter));
       }
 
   -- Every infix row of n rows behind the first i keeps the rule.
@@ -154,7 +161,7 @@ module _ (ts ws : List ℕ) where
         let i = first + size l in
         let q : i + size r + 1 ≡ first + size (infixed m p l r) = omega arith in
         let sides = among-both first (size l) i (size r) refl (tree-rows l first 0 (w .left) (k .1)) (tree-rows r i 0 (w .right) (k .2)) in
-        among-both first (size l + size r) (i + size r) 1 (omega arith) sides (among-one (i + size r) (λ e. rw q (own-row m p l r first w k)))
+        among-both first (size l + size r) (i + size r) 1 (omega arith) sides (among-one (i + size r) (λ e. rw q (own-row m p l r first next w k)))
     tree-rows (node kd m p a b c d) first next h k =
         let w = four ws kd m p a b c d first next h in
         let i = first + sizes a in
@@ -165,7 +172,7 @@ module _ (ts ws : List ℕ) where
         let abc = among-both first (sizes a + sizes b) j (sizes c) (omega arith) ab (trees-rows c j (w .c2) (k .3)) in
         let abcd = among-both first (sizes a + sizes b + sizes c) n (sizes d) (omega arith) abc (trees-rows d n (w .c3) (k .4)) in
         among-both first (sizes a + sizes b + sizes c + sizes d) (n + sizes d) 1 (omega arith) abcd
-        (among-one (n + sizes d) (λ e. absurd (no-infix-row kd (n + sizes d + 1) (rw q (w .own)) (k .0) e)))
+        (among-one (n + sizes d) (λ e. absurd (no-infix-row kd (n + sizes d + 1) (rw q (w .own .kind-word)) (k .0) e)))
 
     trees-rows : (us : Trees) (first : ℕ) → Held ws first (lays us first) → EveryOf (KeepsBut ts) us → Among first (sizes us)
     trees-rows nil first h k = λ r lo hi e. absurd (omega arith)
