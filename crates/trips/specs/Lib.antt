@@ -1,0 +1,2 @@
+-- What is promised of the entries, the check and the writer together.
+pub mod Promises
