@@ -1,2 +1,3 @@
 -- What is proved of the contracts.
+mod Fours
 pub mod Determined

@@ -7,6 +7,8 @@ ghost use Rattle.answer.specs.Answer.{answered, numbers};
 ghost use Rattle.files.specs.Entry.{file-answer, file-buffer};
 ghost use Rattle.text.specs.Entries.{fold-answer, fold-buffer};
 ghost use Rattle.four.specs.Answers.{over, file-words, fold-words, text-words};
+ghost use Rattle.trees.specs.Leaves.{front};
+ghost use Rattle.exports.specs.Trees.{Checks, Puts};
 
 // Reads one expression from a start place, in strict mode or in the old one.
 #[no_mangle]
@@ -81,4 +83,71 @@ pub extern "C" fn shigthapul_text<'a>(payload: &'a [u8], work: &'a [u8], answer:
     ensures answer { λ _. ⌜ now (answer .exit) ≡ over (text-words (now (payload .entry)) (now (work .entry))) (now (answer .entry)) ⌝ }
 {
     four::put_text(answer, payload, work);
+}
+
+// Checks that the rows which a root reaches in a pool are a tree.
+//
+// An answer has four words, so of a longer slice only these are lent on. As the function then calls itself, the compiler
+// keeps the memory of the two checks out of its frame: a call takes no more stack than the pool's rows need.
+#[no_mangle]
+pub extern "C" fn shigthapul_check(pool: &[u32], root: usize, answer: &mut [u64])
+    ensures { λ _. ⌜ Checks (now (pool .entry)) root (now (answer .entry)) (now (answer .exit)) ⌝ }
+{
+    if 4 < answer.len() {
+        shigthapul_check(pool, root, &mut answer[..4]);
+        return;
+    }
+    if pool.len() < rows::end(trees::SMALL as u32) {
+        shigthapul_check_small(pool, root, answer);
+        return;
+    }
+    let checked = trees::check_large(pool, root);
+    four::put_checked(answer, checked);
+}
+
+// The same of the front of a pool, with little stack whatever the pool.
+#[no_mangle]
+pub extern "C" fn shigthapul_check_small(pool: &[u32], root: usize, answer: &mut [u64])
+    ensures { λ _. ⌜ Checks (front (now (pool .entry))) root (now (answer .entry)) (now (answer .exit)) ⌝ }
+{
+    let checked = trees::check_small(pool, root);
+    four::put_checked(answer, checked);
+}
+
+// Writes the tree at a root as token words, and the places of their payloads. It calls itself as the check does.
+#[no_mangle]
+pub extern "C" fn shigthapul_write(
+    pool: &[u32],
+    root: usize,
+    words: &mut [u16],
+    places: &mut [u32],
+    answer: &mut [u64],
+)
+    ensures { λ _. ⌜ Puts (now (pool .entry)) root (now (words .entry)) (now (places .entry)) (now (answer .entry)) (now (words .exit)) (now (places .exit)) (now (answer .exit)) ⌝ }
+{
+    if 4 < answer.len() {
+        shigthapul_write(pool, root, words, places, &mut answer[..4]);
+        return;
+    }
+    if pool.len() < rows::end(trees::SMALL as u32) {
+        shigthapul_write_small(pool, root, words, places, answer);
+        return;
+    }
+    let wrote = writer::write_large(pool, root, words, places);
+    four::put_wrote(answer, wrote);
+}
+
+// The same of the front of a pool, with little stack whatever the pool.
+#[no_mangle]
+pub extern "C" fn shigthapul_write_small(
+    pool: &[u32],
+    root: usize,
+    words: &mut [u16],
+    places: &mut [u32],
+    answer: &mut [u64],
+)
+    ensures { λ _. ⌜ Puts (front (now (pool .entry))) root (now (words .entry)) (now (places .entry)) (now (answer .entry)) (now (words .exit)) (now (places .exit)) (now (answer .exit)) ⌝ }
+{
+    let wrote = writer::write_small(pool, root, words, places);
+    four::put_wrote(answer, wrote);
 }
