@@ -103,7 +103,7 @@ fn malformed(what: &str) -> io::Error {
 }
 
 /// Reads `bytes` fully, or gives false if the stream ends before the first byte.
-fn fill(from: &mut impl Read, bytes: &mut [u8]) -> io::Result<bool> {
+pub fn fill(from: &mut impl Read, bytes: &mut [u8]) -> io::Result<bool> {
     let mut done = 0;
     while done < bytes.len() {
         match from.read(&mut bytes[done..])? {
@@ -116,7 +116,7 @@ fn fill(from: &mut impl Read, bytes: &mut [u8]) -> io::Result<bool> {
 }
 
 /// Reads a record's second part, which must be there.
-fn fill_rest(from: &mut impl Read, length: usize) -> io::Result<Vec<u8>> {
+pub fn fill_rest(from: &mut impl Read, length: usize) -> io::Result<Vec<u8>> {
     let mut bytes = vec![0; length];
     if length > 0 && !fill(from, &mut bytes)? {
         return Err(malformed("the stream ends in the middle of a record"));
@@ -124,11 +124,11 @@ fn fill_rest(from: &mut impl Read, length: usize) -> io::Result<Vec<u8>> {
     Ok(bytes)
 }
 
-fn halves(bytes: &[u8]) -> Vec<u16> {
+pub fn halves(bytes: &[u8]) -> Vec<u16> {
     bytes.chunks_exact(2).map(|pair| u16::from_le_bytes([pair[0], pair[1]])).collect()
 }
 
-fn fulls(bytes: &[u8]) -> Vec<u32> {
+pub fn fulls(bytes: &[u8]) -> Vec<u32> {
     let word = |four: &[u8]| u32::from_le_bytes([four[0], four[1], four[2], four[3]]);
     bytes.chunks_exact(4).map(word).collect()
 }

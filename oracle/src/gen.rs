@@ -5,7 +5,7 @@ mod grammar;
 mod limits;
 mod loose;
 mod nesting;
-mod rng;
+pub mod rng;
 pub mod token_files;
 
 use crate::batch::Case;

@@ -17,6 +17,7 @@ mod show;
 mod signs;
 mod text;
 mod tree;
+mod trees;
 mod words;
 
 // The original parser's text, copied at build time.
@@ -106,12 +107,13 @@ fn run(arguments: &[String]) -> io::Result<bool> {
             let mut answers = BufReader::new(File::open(answers)?);
             Ok(compare::compare(&mut io::stdin().lock(), &mut answers)? == 0)
         }
-        _ => Err(wrong(USAGE.into())),
+        _ => trees::run(command, rest)
+            .unwrap_or_else(|| Err(wrong(format!("{}{}", USAGE, trees::USAGE)))),
     }
 }
 
 /// Prints what came of a recording; false if it was stopped.
-fn told(done: Result<record::Tally, String>) -> bool {
+fn told(done: Result<impl std::fmt::Display, String>) -> bool {
     match &done {
         Ok(tally) => eprintln!("{}", tally),
         Err(what) => eprintln!("oracle: {}", what),

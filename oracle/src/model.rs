@@ -5,6 +5,7 @@ mod reader;
 mod statements;
 
 use crate::words;
+pub use reader::MOST_OPEN;
 use reader::{Read, Reader, Refusal};
 
 /// Words of a row, and the most rows a pool has.

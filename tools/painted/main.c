@@ -1,5 +1,6 @@
-/* Measures how much stack the six functions take, and prints tables: the deepest nests of every form, mixes of them, and
-   the largest inputs, in both modes. The status is 1 if a nest is not as deep as it should be. */
+/* Measures how much stack the ten functions take, and prints tables: the deepest nests of every form, mixes of them, and
+   the largest inputs, in both modes; and trees. The status is 1 if a nest is not as deep as it should be, or if a function
+   on trees takes more than it may. */
 #define _XOPEN_SOURCE 700
 #define _DEFAULT_SOURCE
 
@@ -7,6 +8,7 @@
 #include "mixes.h"
 #include "patterns.h"
 #include "self_test.h"
+#include "trees.h"
 
 /* Prints the lines of what a function has read, in the mode that is lent. */
 static void print_read(const char *what, enum function function) {
@@ -54,23 +56,28 @@ static void all_readers(bool strict) {
 static void print_worst(void) {
     printf("\nBytes of stack of a call, at most, and with what\n");
     for (int function = 0; function < FUNCTIONS; function++)
-        printf("%-16s %8zu  %s\n", NAMES[function], worst[function].bytes, worst[function].what);
+        if (worst[function].what[0] != '\0')
+            printf("%-24s %8zu  %s\n", NAMES[function], worst[function].bytes, worst[function].what);
     printf("stack: %lu calls measured, %lu faults\n", calls, faults);
 }
 
 int main(int count, char **words) {
     bool self_only = count == 2 && strcmp(words[1], "--self-test") == 0;
-    if (count != 1 && !self_only)
-        stop("usage: tools/stack [--self-test]");
+    bool trees_only = count == 2 && strcmp(words[1], "--trees") == 0;
+    if (count != 1 && !self_only && !trees_only)
+        stop("usage: tools/stack [--self-test | --trees]");
     make_patterns();
     if (!self_test())
         return 1;
     if (self_only)
         return 0;
-    all_readers(false);
-    all_readers(true);
-    files();
-    payloads();
+    if (!trees_only) {
+        all_readers(false);
+        all_readers(true);
+        files();
+        payloads();
+    }
+    all_trees();
     print_worst();
     return faults == 0 ? 0 : 1;
 }

@@ -4,8 +4,23 @@
 
 #include "nests.h"
 
-static const char *const NAMES[FUNCTIONS] = {"one_expression", "one_statement", "whole_script",
-                                             "read_file",      "fold",          "text"};
+static const char *const NAMES[FUNCTIONS] = {
+    [ONE_EXPRESSION] = "one_expression",
+    [ONE_STATEMENT] = "one_statement",
+    [WHOLE_SCRIPT] = "whole_script",
+    [READ_FILE] = "read_file",
+    [FOLD] = "fold",
+    [TEXT] = "text",
+    [CHECK_SMALL] = "check_small",
+    [WRITE_SMALL] = "write_small",
+    [CHECK_FEW] = "check, up to 4,096 rows",
+    [WRITE_FEW] = "write, up to 4,096 rows",
+    [CHECK] = "check",
+    [WRITE] = "write",
+};
+
+/* What the functions on trees may take at most. */
+enum { FEW_BYTES = 64 * 1024, MANY_BYTES = 384 * 1024 };
 
 /* The mode that is lent, for the functions that read tokens. */
 static const char *mode_of(enum function function) {

@@ -25,14 +25,18 @@ static volatile int written;
 
 static __attribute__((noinline)) void write_pattern(void) {
     volatile uint64_t frame[DEEP * FRAME_BYTES / 8];
-    frame[0] = painted_stacks[written].pattern;
+    frame[0] = painted_stacks[USUAL][written].pattern;
     result = (int)frame[0];
 }
 
-/* Whether a job's depth beyond the empty function's lies from a number of bytes up to a tenth above it. */
+/* Whether a job's depth beyond the empty function's lies from a number of bytes up to a tenth above it, on all stacks. */
 static bool is_about(void (*job)(void), size_t bytes) {
-    size_t depth = depth_of(job) - depth_of(nothing);
-    return depth >= bytes && depth <= bytes + bytes / 10;
+    bool good = true;
+    for (int size = USUAL; size < SIZES; size++) {
+        size_t depth = depth_of(job, (enum size)size) - depth_of(nothing, (enum size)size);
+        good = good && depth >= bytes && depth <= bytes + bytes / 10;
+    }
+    return good;
 }
 
 static bool is_deep(int frames) {

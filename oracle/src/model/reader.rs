@@ -4,7 +4,7 @@ use super::{Mode, NO_ROW, WRONG_SIGN};
 use crate::words;
 
 /// The most calls of `parse_expression` and `parse_statement` open at once.
-const MOST_OPEN: u32 = 64;
+pub const MOST_OPEN: u32 = 64;
 
 pub struct Refusal {
     pub number: u32,

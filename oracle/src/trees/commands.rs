@@ -1,0 +1,89 @@
+//! The oracle's commands for trees in pools.
+use super::case::Case;
+use super::examples::{self, read_rows};
+use super::gen;
+use super::judge::judge;
+use super::record::{forms, record};
+use super::selfcheck;
+use crate::record::Choice;
+use crate::text;
+use crate::{mode, number, told, wrong};
+use std::io::{self, BufWriter};
+
+pub const USAGE: &str = "
+  trees-record KIND [--seed N] [--count N] [--every N] [--most BYTES]
+                             cases of trees in pools, each with the model's answers
+      (kinds: examples table grown parsed nests large broken noise limits; counts on standard error)
+  trees-forms --mode old|strict   what the records on standard input have written, as a batch
+  trees-selfcheck [--seed N] every kind of them in every way that the model has, and the round trip
+  trees-show ROOT ROWS       what the check and the writer answer, for people
+      (a row's words with blanks between, zeros at its end left out, a stroke between rows)";
+
+/// Runs a command; false if it found a difference, None if there is no such command.
+pub fn run(command: &str, rest: &[String]) -> Option<io::Result<bool>> {
+    Some(match (command, rest) {
+        ("trees-record", [kind, rest @ ..]) => record_kind(kind, rest),
+        ("trees-forms", [option, name]) if option == "--mode" => forms_by(name),
+        ("trees-selfcheck", []) => selfcheck::run(1),
+        ("trees-selfcheck", [option, seed]) if option == "--seed" => {
+            number(option, seed).and_then(selfcheck::run)
+        }
+        ("trees-show", [root, rows]) => show(root, rows),
+        _ => return None,
+    })
+}
+
+fn record_kind(name: &str, options: &[String]) -> io::Result<bool> {
+    let (mut seed, mut count, mut choice) = (1, None, Choice::default());
+    for pair in options.chunks(2) {
+        match pair {
+            [option, value] if option == "--seed" => seed = number(option, value)?,
+            [option, value] if option == "--count" => count = Some(number(option, value)?),
+            [option, value] if option == "--every" => choice.every = number(option, value)?,
+            [option, value] if option == "--most" => choice.most = number(option, value)?,
+            _ => return Err(wrong(format!("unknown option {}\n{}", pair.join(" "), USAGE))),
+        }
+    }
+    if choice.every == 0 {
+        return Err(wrong("--every wants a number above 0".into()));
+    }
+    let mut out = BufWriter::new(io::stdout().lock());
+    if name == "examples" {
+        let cases = examples::all()?.into_iter().map(|example| example.case);
+        return Ok(told(record(cases, &mut out, &choice)?));
+    }
+    let found = gen::KINDS.iter().find(|(known, _)| *known == name);
+    let (_, kind) = *found.ok_or_else(|| wrong(format!("no kind {}", name)))?;
+    Ok(told(record(gen::cases(kind, seed, count), &mut out, &choice)?))
+}
+
+fn forms_by(name: &str) -> io::Result<bool> {
+    let (mut records, mut out) = (io::stdin().lock(), BufWriter::new(io::stdout().lock()));
+    forms(&mut records, &mut out, mode(name)?)?;
+    Ok(true)
+}
+
+/// Prints what the model answers to a pool in the text form.
+fn show(root: &str, rows: &str) -> io::Result<bool> {
+    let pool = read_rows(rows).map_err(|_| wrong(format!("rows are numbers, not {}", rows)))?;
+    let case = Case::roomy(pool, number("ROOT", root)?);
+    let judged = match judge(&case) {
+        Ok(judged) => judged,
+        Err(what) => {
+            println!("{}", what);
+            return Ok(false);
+        }
+    };
+    match judged.form {
+        None => println!("no {} {} {:?}", judged.number, judged.place, judged.faults),
+        Some(form) => {
+            let places = form.written.places.iter().enumerate().filter(|(_, &place)| place != 0);
+            let places: Vec<String> =
+                places.map(|(token, place)| format!("{}:{}", token, place)).collect();
+            println!("ok {} {}", judged.place, text::of_words(&form.written.words));
+            println!("places {}", places.join(" "));
+            println!("read back by {:?}: {:?}", form.entry, form.back);
+        }
+    }
+    Ok(true)
+}
