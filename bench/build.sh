@@ -28,8 +28,10 @@ build_bench() { # SRC_DIR
 build_plain() {
     mkdir -p "$PLAIN_DIR"
     rm -f "$PLAIN_DIR/libplain.a"
-    "$CC" -std=c11 -O3 -Wall -Wextra -c -o "$PLAIN_DIR/reader.o" "$here/reader.c"
-    "$AR" rc "$PLAIN_DIR/libplain.a" "$PLAIN_DIR/reader.o"
+    for build_name in reader writer; do
+        "$CC" -std=c11 -O3 -Wall -Wextra -c -o "$PLAIN_DIR/$build_name.o" "$here/$build_name.c"
+        "$AR" rc "$PLAIN_DIR/libplain.a" "$PLAIN_DIR/$build_name.o"
+    done
 }
 
 # The path of this reader's archive, if there is one.

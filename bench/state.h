@@ -11,9 +11,6 @@
 
 enum { MOST_TOKENS = 32768, MOST_OPEN = 64 };
 
-/* Words of a row; NEXT is behind the four children. */
-enum { KIND = 0, MARK = 1, PLACE = 2, CHILD = 3, NEXT = CHILD + 4 };
-
 /* What a reader gives for a refusal, in place of a reference. */
 #define FAILED UINT32_MAX
 

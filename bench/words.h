@@ -1,4 +1,4 @@
-/* The numbers of document 01 by name: token words, kinds of rows, flags in marks and refusals. */
+/* The numbers of document 01 by name: token words, words and kinds of rows, flags in marks and refusals. */
 #ifndef PLAIN_WORDS_H
 #define PLAIN_WORDS_H
 
@@ -75,16 +75,19 @@ enum {
     T_ASYNC = KEYWORD(27)
 };
 
+/* Words of a row; NEXT is behind the children. */
+enum { KIND = 0, MARK = 1, PLACE = 2, CHILD = 3, CHILDREN = 4, NEXT = CHILD + CHILDREN };
+
 /* Kinds of rows. */
 enum {
     NONE = 1, IDENTIFIER, INT, FLOAT, CHAR, STRING, BOOL, ARRAY, HASH, INDEX, CALL, INFIX, PREFIX,
     SUFFIX, LAMBDA, SHELL, ATTRIBUTE, NAME, PAIR,
     BREAK = 32, CONTINUE, VAR, CONST, RETURN, THROW, EXPRESSION, TRY, FUNCTION, FOR, WHILE, ASSERT,
-    IF, FOREACH, BLOCK
+    IF, FOREACH, BLOCK, KINDS
 };
 
 /* Flags in marks. */
-enum { THREAD = 1, ASYNC = 2, GROUPED = 256 };
+enum { THREAD = 1, ASYNC = 2, RAW = 1, GROUPED = 256 };
 
 /* Refusals. */
 enum {
@@ -93,7 +96,8 @@ enum {
     ASSERT_WITHOUT_ACTION, ASSERT_WITHOUT_COMMA, FUNC_WITHOUT_NAME, IF_WITHOUT_BODY,
     CONST_WITHOUT_VALUE, EXPECTED_EQ, EXPECTED_COLON, NO_PARAMETERS, EXPECTED_ARROW,
     HASH_NOT_TERMINATED, ARRAY_NOT_TERMINATED, NOT_CALLABLE, TRY_WITHOUT_CATCH,
-    BREAK_WITHOUT_SEMICOLON, CONTINUE_WITHOUT_SEMICOLON, WRONG_SIGN
+    BREAK_WITHOUT_SEMICOLON, CONTINUE_WITHOUT_SEMICOLON, WRONG_SIGN,
+    TOO_SHORT = 32, NO_TREE = 38
 };
 
 #endif

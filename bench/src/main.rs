@@ -1,5 +1,6 @@
-//! The bench's commands: tables of times, and one read by one reader between two marks, for counting instructions.
+//! The bench's commands: tables of times, and one run of a reader or a writer between two marks, for counting instructions.
 mod agree;
+mod chance;
 mod clock;
 mod count;
 mod lexer;
@@ -7,6 +8,9 @@ mod readers;
 mod scripts;
 mod tables;
 mod timing;
+mod trees;
+mod writers;
+mod written;
 
 // Shared with the oracle.
 #[allow(dead_code)]
@@ -23,11 +27,19 @@ include!(concat!(env!("OUT_DIR"), "/original.rs"));
 
 use readers::Reader;
 use scripts::Kind;
+use trees::Shape;
+use writers::Writer;
 
 const USAGE: &str = "commands:
-  times [--samples N]         tables of times, best of N samples (15 unless given)
+  times [--samples N]         tables of the readers' times, best of N samples (15 unless given)
+  trees [--samples N]         the table of the writers' times
   count READER KIND TOKENS    one read between two marks
-      (readers: original ours strict plain; kinds: chains calls statements)";
+      (readers: original ours strict plain; kinds: chains calls statements)
+  count-tree WRITER SHAPE ROWS   one check or writing of a tree between two marks
+      (writers: check plain-check write plain-write; shapes: deep wide mixed)";
+
+/// How many samples are taken unless it is said.
+const SAMPLES: usize = 15;
 
 /// The original recurses as deep as its statements nest, and its trees are dropped so too.
 const STACK: usize = 1 << 28;
@@ -47,11 +59,21 @@ fn main() {
 fn run(arguments: &[String]) -> bool {
     let words: Vec<&str> = arguments.iter().map(String::as_str).collect();
     match words[..] {
-        ["times"] => tables::print(15),
-        ["times", "--samples", samples] => match samples.parse() {
-            Ok(samples) if samples > 0 => tables::print(samples),
+        ["times"] => tables::print(SAMPLES),
+        ["trees"] => written::print(SAMPLES),
+        [table, "--samples", samples] => match (table, samples.parse()) {
+            ("times", Ok(samples)) if samples > 0 => tables::print(samples),
+            ("trees", Ok(samples)) if samples > 0 => written::print(samples),
             _ => return false,
         },
+        ["count-tree", writer, shape, rows] => {
+            match (Writer::named(writer), Shape::named(shape), rows.parse()) {
+                (Some(writer), Some(shape), Ok(rows)) if rows > 2 => {
+                    written::once(writer, shape, rows)
+                }
+                _ => return false,
+            }
+        }
         ["count", reader, kind, tokens] => {
             match (Reader::named(reader), Kind::named(kind), tokens.parse()) {
                 (Some(reader), Some(kind), Ok(tokens)) => count::once(reader, kind, tokens),

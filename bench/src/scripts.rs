@@ -1,4 +1,5 @@
 //! Scripts of three kinds and any size, made by chance from fixed seeds.
+use crate::chance::Chance;
 use crate::words::*;
 
 /// The kinds of scripts.
@@ -38,8 +39,7 @@ const TRIES: usize = 30;
 /// A script of exactly `length` words, EOF included; what no statement fits is filled with names. Another number gives
 /// another script.
 pub fn script(kind: Kind, length: usize, number: u64) -> Vec<u16> {
-    let mut maker =
-        Maker { state: 0x9E37_79B9_7F4A_7C15_u64.wrapping_mul(number + 1), words: vec![] };
+    let mut maker = Maker { chance: Chance::new(number), words: vec![] };
     let mut tries = 0;
     while tries < TRIES {
         let before = maker.words.len();
@@ -63,19 +63,15 @@ pub fn script(kind: Kind, length: usize, number: u64) -> Vec<u16> {
     maker.words
 }
 
-/// The words of a script under way, and the state of chance.
+/// The words of a script under way.
 struct Maker {
-    state: u64,
+    chance: Chance,
     words: Vec<u16>,
 }
 
 impl Maker {
-    /// A number below `bound`, by xorshift.
     fn below(&mut self, bound: usize) -> usize {
-        self.state ^= self.state << 13;
-        self.state ^= self.state >> 7;
-        self.state ^= self.state << 17;
-        (self.state >> 33) as usize % bound
+        self.chance.below(bound)
     }
 
     fn put(&mut self, words: &[u16]) {

@@ -1,4 +1,4 @@
-//! How long a reader takes for some scripts.
+//! How long something takes: readers for some scripts, or whatever can be done in passes.
 use crate::clock;
 use crate::readers::{self, Reader};
 use std::time::Duration;
@@ -16,22 +16,31 @@ const SAMPLE: Duration = Duration::from_millis(4);
 pub fn best(readers: &[Reader], cases: &[Case], samples: usize) -> Vec<f64> {
     let most = cases.iter().map(|case| case.words).max().unwrap_or(0);
     let mut pool = vec![0; most];
-    let passes: Vec<usize> =
-        readers.iter().map(|&reader| passes_of_a_sample(reader, cases, &mut pool)).collect();
-    let mut best = vec![f64::INFINITY; readers.len()];
+    let mut sample = |which: usize, passes| sample(readers[which], cases, &mut pool, passes);
+    best_of(readers.len(), samples, &mut sample)
+}
+
+/// The same for so many ways to do something, each by its number: `sample` gives the time of so many passes.
+pub fn best_of(
+    count: usize,
+    samples: usize,
+    sample: &mut dyn FnMut(usize, usize) -> Duration,
+) -> Vec<f64> {
+    let passes: Vec<usize> = (0..count).map(|which| passes_of_a_sample(which, sample)).collect();
+    let mut best = vec![f64::INFINITY; count];
     for _ in 0..samples {
-        for (which, &reader) in readers.iter().enumerate() {
-            let time = sample(reader, cases, &mut pool, passes[which]);
-            best[which] = best[which].min(time.as_nanos() as f64 / passes[which] as f64);
+        for (which, &passes) in passes.iter().enumerate() {
+            let time = sample(which, passes);
+            best[which] = best[which].min(time.as_nanos() as f64 / passes as f64);
         }
     }
     best
 }
 
-/// How many passes make a sample; those it takes to find out warm the reader up.
-fn passes_of_a_sample(reader: Reader, cases: &[Case], pool: &mut [u32]) -> usize {
+/// How many passes make a sample; those it takes to find out warm the code up.
+fn passes_of_a_sample(which: usize, sample: &mut dyn FnMut(usize, usize) -> Duration) -> usize {
     let mut passes = 1;
-    while sample(reader, cases, pool, passes) < SAMPLE {
+    while sample(which, passes) < SAMPLE {
         passes *= 2;
     }
     passes

@@ -28,17 +28,22 @@ extern "C" {
    The entries that read tokens      0, root reference, rows used, place of the current token
    The file reader and the fold      0, count of fields or length of the text, 0, 0
    The text                          0, its length, 1 where it is the front of `work` and 0 where it is the payload, 0
+   The check of a tree               0, 0, 0, 0
+   The writer                        0, count of tokens, 0, 0
    A refusal                         its number, its place, 0, 0 */
 enum { SHIGTHAPUL_ANSWER_WORDS = 4 };
 
 /* The words of a row of the pool: kind, mark, place, children, next. A reference is a row's number plus one, and 0 for
    none. A pool of `n` words has n / SHIGTHAPUL_ROW_WORDS rows, at most SHIGTHAPUL_MOST_ROWS. No token takes more than
-   two rows, so SHIGTHAPUL_TOKEN_WORDS words of a pool for each token, EOF counted, are enough for any script. */
+   two rows, so SHIGTHAPUL_TOKEN_WORDS words of a pool for each token, EOF counted, are enough for any script. No row is
+   written as more than SHIGTHAPUL_ROW_TOKENS tokens, so that many for each row of a tree are enough to write it. */
 enum {
     SHIGTHAPUL_ROW_WORDS = 8,
     SHIGTHAPUL_CHILDREN = 4,
     SHIGTHAPUL_MOST_ROWS = 65535,
-    SHIGTHAPUL_TOKEN_WORDS = 2 * SHIGTHAPUL_ROW_WORDS
+    SHIGTHAPUL_SMALL_ROWS = 4096, /* what the functions for threads with little stack look at */
+    SHIGTHAPUL_TOKEN_WORDS = 2 * SHIGTHAPUL_ROW_WORDS,
+    SHIGTHAPUL_ROW_TOKENS = 6
 };
 
 /* The mode, which the three functions below take as `strict`. In the old mode, false, any token closes a call that has
@@ -76,6 +81,25 @@ void shigthapul_fold(const uint8_t *payload, size_t payload_len, uint8_t *work, 
 void shigthapul_text(const uint8_t *payload, size_t payload_len, const uint8_t *work, size_t work_len,
                      uint64_t *answer, size_t answer_len);
 
+/* Checks that the rows which `root` reaches by child and next words are a tree: one of an expression, a statement or a
+   block. Otherwise the refusal is SHIGTHAPUL_REFUSED_NO_TREE, at 0 where the pool has no such root, else at the reference
+   of the first bad row. Rows that the root doesn't reach, and places, are not looked at. docs/GUIDE.md says what a tree
+   is. */
+void shigthapul_check(const uint32_t *pool, size_t pool_len, size_t root, uint64_t *answer, size_t answer_len);
+
+/* Checks a tree in the same way, and writes it as a script: token words into the front of `words`, EOF last, and for each
+   token the place word of the row that its name, number or text belongs to into `places`; 0 for a token that has none.
+   The rest of both becomes 0. Where either is too short for the tokens, the refusal is SHIGTHAPUL_REFUSED_TOO_SHORT
+   at 0. After a refusal every word of both is 0. */
+void shigthapul_write(const uint32_t *pool, size_t pool_len, size_t root, uint16_t *words, size_t words_len,
+                      uint32_t *places, size_t places_len, uint64_t *answer, size_t answer_len);
+
+/* The same two for threads with little stack: they look only at the first SHIGTHAPUL_SMALL_ROWS rows of the pool, as if it
+   had no more, and never take more than 64 KiB of stack, whatever the pool. */
+void shigthapul_check_small(const uint32_t *pool, size_t pool_len, size_t root, uint64_t *answer, size_t answer_len);
+void shigthapul_write_small(const uint32_t *pool, size_t pool_len, size_t root, uint16_t *words, size_t words_len,
+                            uint32_t *places, size_t places_len, uint64_t *answer, size_t answer_len);
+
 /* The answer of any of them: pass `words` and SHIGTHAPUL_ANSWER_WORDS. */
 struct shigthapul_answer {
     uint64_t words[SHIGTHAPUL_ANSWER_WORDS];
@@ -105,12 +129,12 @@ static inline size_t shigthapul_rows(const struct shigthapul_answer *answer) {
     return (size_t)answer->words[2];
 }
 
-/* The count of fields that were read, or the length of a text. */
+/* The count of fields that were read or of tokens that were written, or the length of a text. */
 static inline size_t shigthapul_count(const struct shigthapul_answer *answer) {
     return shigthapul_is_accepted(answer) ? (size_t)answer->words[1] : 0;
 }
 
-/* A row, and the row of a reference that is not 0. */
+/* A row, and the row of a reference that is not 0: to look at, and to put another in its place. */
 struct shigthapul_row {
     uint32_t kind;
     uint32_t mark;
@@ -123,6 +147,10 @@ static inline struct shigthapul_row shigthapul_row_at(const uint32_t *pool, uint
     struct shigthapul_row row;
     memcpy(&row, pool + SHIGTHAPUL_ROW_WORDS * ((size_t)reference - 1), sizeof row);
     return row;
+}
+
+static inline void shigthapul_put_row(uint32_t *pool, uint32_t reference, const struct shigthapul_row *row) {
+    memcpy(pool + SHIGTHAPUL_ROW_WORDS * ((size_t)reference - 1), row, sizeof *row);
 }
 
 /* Whether a row is of a kind and has a flag in its mark. */

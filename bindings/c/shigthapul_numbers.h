@@ -2,6 +2,7 @@
 #ifndef SHIGTHAPUL_NUMBERS_H
 #define SHIGTHAPUL_NUMBERS_H
 
+#include <stdbool.h>
 #include <stdint.h>
 
 /* Each table below has a line for each member, X(name, number, text), and makes two things of it: an enum with the
@@ -45,7 +46,9 @@
     X(SHIGTHAPUL_REFUSED_TRY_WITHOUT_CATCH, 27, "try: no catch") \
     X(SHIGTHAPUL_REFUSED_BREAK_WITHOUT_SEMICOLON, 28, "break: no ;") \
     X(SHIGTHAPUL_REFUSED_CONTINUE_WITHOUT_SEMICOLON, 29, "continue: no ;") \
-    X(SHIGTHAPUL_REFUSED_WRONG_SIGN, 30, "a call with arguments: no ); while, foreach, finally: no {")
+    X(SHIGTHAPUL_REFUSED_WRONG_SIGN, 30, "a call with arguments: no ); while, foreach, finally: no {") \
+    X(SHIGTHAPUL_REFUSED_TOO_SHORT, 32, "no room for what is written") \
+    X(SHIGTHAPUL_REFUSED_NO_TREE, 38, "not a tree: the root, or a row that it reaches")
 SHIGTHAPUL_TABLE(refusal, SHIGTHAPUL_REFUSALS)
 
 /* The kinds of rows, with what their children are. A list is the child and the rows behind it by next words. */
@@ -231,6 +234,11 @@ enum shigthapul_mark {
 /* The word of a token: its class in the upper eight bits, its code in the lower eight. */
 static inline uint16_t shigthapul_word(enum shigthapul_class token_class, unsigned code) {
     return (uint16_t)((unsigned)token_class << 8 | code);
+}
+
+/* Whether a token has a payload that its word doesn't say: a number, a text, a character or a name. */
+static inline bool shigthapul_has_payload(uint16_t word) {
+    return SHIGTHAPUL_CLASS_INTEGER <= word >> 8 && word >> 8 <= SHIGTHAPUL_CLASS_IDENTIFIER;
 }
 
 #endif

@@ -30,6 +30,8 @@ static void check(bool holds, const char *text, int line) {
     }
 }
 
+static const struct shigthapul_row LEAF = {.kind = SHIGTHAPUL_KIND_IDENTIFIER, .place = 4};
+
 /* How many words of the pool are not 0, from a row on. */
 static size_t left(size_t row) {
     size_t count = 0;
@@ -118,6 +120,30 @@ static void test_text(void) {
     CHECK(shigthapul_refusal(&answer) == SHIGTHAPUL_REFUSED_NO_ROOM);
 }
 
+static void test_tree(void) {
+    struct shigthapul_row not = {.kind = SHIGTHAPUL_KIND_PREFIX, .mark = SHIGTHAPUL_PREFIX_NOT, .children = {1}};
+    uint16_t words[] = {9, 9, 9, 9, 9, 9};
+    uint32_t places[] = {9, 9, 9, 9, 9, 9};
+    struct shigthapul_answer answer;
+    shigthapul_put_row(pool, 1, &LEAF);
+    shigthapul_put_row(pool, 2, &not);
+    CHECK(shigthapul_row_at(pool, 1).place == 4 && shigthapul_row_at(pool, 2).children[0] == 1);
+    shigthapul_check(pool, LENGTH(pool), 2, ANSWER(answer));
+    CHECK(shigthapul_is_accepted(&answer) && shigthapul_count(&answer) == 0);
+    shigthapul_write(pool, LENGTH(pool), 2, words, LENGTH(words), places, LENGTH(places), ANSWER(answer));
+    CHECK(shigthapul_is_accepted(&answer) && shigthapul_count(&answer) == 5);
+    CHECK(words[0] == OPEN && words[2] == A && words[3] == CLOSE && words[4] == END && words[5] == 0);
+    CHECK(places[0] == 0 && places[1] == 0 && places[2] == 4 && places[3] == 0 && places[4] == 0 && places[5] == 0);
+    CHECK(shigthapul_has_payload(words[2]) && !shigthapul_has_payload(words[1]) && !shigthapul_has_payload(words[4]));
+    shigthapul_write_small(pool, LENGTH(pool), 2, words, 4, places, LENGTH(places), ANSWER(answer));
+    CHECK(shigthapul_refusal(&answer) == SHIGTHAPUL_REFUSED_TOO_SHORT && shigthapul_count(&answer) == 0);
+    CHECK(words[0] == 0 && words[4] == END && places[2] == 0);
+    not.children[0] = 2;
+    shigthapul_put_row(pool, 2, &not);
+    shigthapul_check_small(pool, LENGTH(pool), 2, ANSWER(answer));
+    CHECK(shigthapul_refusal(&answer) == SHIGTHAPUL_REFUSED_NO_TREE && shigthapul_place(&answer) == 2);
+}
+
 static void test_numbers(void) {
     CHECK(sizeof(struct shigthapul_row) == SHIGTHAPUL_ROW_WORDS * sizeof pool[0]);
     CHECK(shigthapul_word(SHIGTHAPUL_CLASS_KEYWORD, SHIGTHAPUL_KAsync) == 0x091B);
@@ -140,6 +166,7 @@ int main(void) {
     test_modes();
     test_file();
     test_text();
+    test_tree();
     test_numbers();
     test_short_answer();
     printf("%d passed; %d failed\n", passed, failed);

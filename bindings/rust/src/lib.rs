@@ -4,7 +4,8 @@
 //! token is a word ([`Token`]), with EOF last and nowhere else. The tree is laid out in a pool of
 //! words that the caller lends, [`ROW_WORDS`] to a row; reading allocates nothing. After a refusal every
 //! word of the pool is zero. No input makes these functions panic. A [`Mode`] says by which rules is
-//! read: the original's, or strict ones.
+//! read: the original's, or strict ones. A tree, also one that was changed, goes back to tokens by
+//! [`Tree::to_tokens`], [`check()`] and [`write()`].
 //!
 //! ```
 //! use shigthapul::{whole_script, Infix, Kind, Mode, Symbol, Token, TOKEN_WORDS};
@@ -44,19 +45,23 @@ mod refusal;
 mod sizes;
 mod text;
 mod token;
+mod tokens;
 mod tree;
 mod walk;
+mod writing;
 
 pub use entries::{one_expression, one_statement, whole_script};
 pub use files::read_file;
 pub use kind::{Infix, Kind, Prefix, Suffix};
 pub use mode::Mode;
 pub use refusal::{Reason, Refusal};
-pub use sizes::{MOST_ROWS, ROW_WORDS, TOKEN_WORDS};
+pub use sizes::{MOST_ROWS, ROW_TOKENS, ROW_WORDS, SMALL_ROWS, TOKEN_WORDS};
 pub use text::{fold, text};
 pub use token::{Keyword, Symbol, Token};
+pub use tokens::{script_text, Tokens};
 pub use tree::{Node, Row, Tree, GROUPED};
 pub use walk::{List, Walk};
+pub use writing::{check, check_small, write, write_small, Checked};
 
 /// The page on both bindings, whose Rust example is run as a test.
 #[cfg(doctest)]

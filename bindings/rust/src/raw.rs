@@ -1,4 +1,4 @@
-//! The six C functions as they are, over slices, and the only unsafe code of this crate.
+//! The ten C functions as they are, over slices, and the only unsafe code of this crate.
 //!
 //! Each writes the four words of its answer to the front of `answer`, as far as that goes; words
 //! behind the fourth stay as they were. The functions of the crate's root are built on these.
@@ -76,6 +76,42 @@ extern "C" {
         payload_len: usize,
         work: *const u8,
         work_len: usize,
+        answer: *mut u64,
+        answer_len: usize,
+    );
+    fn shigthapul_check(
+        pool: *const u32,
+        pool_len: usize,
+        root: usize,
+        answer: *mut u64,
+        answer_len: usize,
+    );
+    fn shigthapul_check_small(
+        pool: *const u32,
+        pool_len: usize,
+        root: usize,
+        answer: *mut u64,
+        answer_len: usize,
+    );
+    fn shigthapul_write(
+        pool: *const u32,
+        pool_len: usize,
+        root: usize,
+        words: *mut u16,
+        words_len: usize,
+        places: *mut u32,
+        places_len: usize,
+        answer: *mut u64,
+        answer_len: usize,
+    );
+    fn shigthapul_write_small(
+        pool: *const u32,
+        pool_len: usize,
+        root: usize,
+        words: *mut u16,
+        words_len: usize,
+        places: *mut u32,
+        places_len: usize,
         answer: *mut u64,
         answer_len: usize,
     );
@@ -184,6 +220,63 @@ pub fn text(payload: &[u8], work: &[u8], answer: &mut [u64]) {
             payload.len(),
             work.as_ptr(),
             work.len(),
+            answer.as_mut_ptr(),
+            answer.len(),
+        )
+    }
+}
+
+/// Checks that the rows which a root reaches are a tree: zeros; or a refusal's number and place.
+pub fn check(pool: &[u32], root: usize, answer: &mut [u64]) {
+    // SAFETY: see the head of this module.
+    unsafe { shigthapul_check(pool.as_ptr(), pool.len(), root, answer.as_mut_ptr(), answer.len()) }
+}
+
+/// The same over the first 4,096 rows of the pool, with little stack.
+pub fn check_small(pool: &[u32], root: usize, answer: &mut [u64]) {
+    // SAFETY: see the head of this module.
+    unsafe {
+        shigthapul_check_small(pool.as_ptr(), pool.len(), root, answer.as_mut_ptr(), answer.len())
+    }
+}
+
+/// Writes the tree at a root as token words, with the place of each token's payload: 0 and the count of
+/// tokens; or a refusal's number and place.
+pub fn write(pool: &[u32], root: usize, words: &mut [u16], places: &mut [u32], answer: &mut [u64]) {
+    // SAFETY: see the head of this module.
+    unsafe {
+        shigthapul_write(
+            pool.as_ptr(),
+            pool.len(),
+            root,
+            words.as_mut_ptr(),
+            words.len(),
+            places.as_mut_ptr(),
+            places.len(),
+            answer.as_mut_ptr(),
+            answer.len(),
+        )
+    }
+}
+
+/// The same over the first 4,096 rows of the pool, with little stack.
+pub fn write_small(
+    pool: &[u32],
+    root: usize,
+    words: &mut [u16],
+    places: &mut [u32],
+    answer: &mut [u64],
+) {
+    // SAFETY: see the head of this module.
+    unsafe {
+        shigthapul_write_small(
+            pool.as_ptr(),
+            pool.len(),
+            root,
+            words.as_mut_ptr(),
+            words.len(),
+            places.as_mut_ptr(),
+            places.len(),
             answer.as_mut_ptr(),
             answer.len(),
         )

@@ -42,12 +42,17 @@ table! {
         ContinueWithoutSemicolon = 29, "continue: no ;";
         /// In strict mode only: [`Mode::Strict`](crate::Mode::Strict) says which calls and bodies.
         WrongSign = 30, "a call with arguments: no ); while, foreach, finally: no {";
+        /// A buffer of token words or of places is too short for a tree.
+        TooShort = 32, "no room for what is written";
+        /// [`check`](crate::check) says what a tree is.
+        NoTree = 38, "not a tree: the root, or a row that it reaches";
     }
 }
 
 /// A refusal: its reason, and its place.
 ///
-/// The place is that of a token, from 0; for [`Reason::BadField`] it is that of a field.
+/// The place is that of a token, from 0; for [`Reason::BadField`] it is that of a field, and for
+/// [`Reason::NoTree`] the reference of a row.
 ///
 /// ```
 /// use shigthapul::{one_expression, Mode, Reason, Refusal, Symbol, Token, ROW_WORDS};

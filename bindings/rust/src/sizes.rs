@@ -6,6 +6,12 @@ pub const ROW_WORDS: usize = 8;
 /// The most rows of a pool; words behind them are only zeroed.
 pub const MOST_ROWS: usize = 65_535;
 
+/// How many rows of a pool the functions for threads with little stack look at.
+pub const SMALL_ROWS: usize = 4_096;
+
 /// So many words of the pool for each token, EOF counted, are enough for any script: no token takes
 /// more than two rows.
 pub const TOKEN_WORDS: usize = 2 * ROW_WORDS;
+
+/// So many tokens for each row of a tree, EOF counted, are enough to write it: no row is written as more.
+pub const ROW_TOKENS: usize = 6;

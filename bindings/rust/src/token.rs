@@ -75,6 +75,12 @@ impl Token {
         class << 8 | code
     }
 
+    /// Whether it has a payload that the word doesn't say: a number, a text, a character or a name.
+    pub const fn has_payload(self) -> bool {
+        use Token::*;
+        matches!(self, Integer | Str | Float | Char | Identifier)
+    }
+
     /// The token of a word; none where the class or the code is bad.
     pub fn from_word(word: u16) -> Option<Token> {
         match (word >> 8, word & 0xFF) {

@@ -1,6 +1,7 @@
 //! The tree that an entry laid out in the pool: its rows, and the way from a row to its children.
 use crate::walk::{List, Walk};
-use crate::{Infix, Kind, Prefix, Suffix, ROW_WORDS};
+use crate::writing::tokens_of;
+use crate::{Infix, Kind, Prefix, Refusal, Suffix, Tokens, ROW_WORDS};
 use std::fmt;
 
 /// What is added to the mark of a row that stands in brackets.
@@ -37,6 +38,38 @@ pub struct Row {
 }
 
 impl Row {
+    /// A row of a kind at a place, with no mark, no children and no next.
+    pub fn new(kind: Kind, place: u32) -> Row {
+        Row { kind, mark: 0, place, children: [0; 4], next: 0 }
+    }
+
+    /// The row of a reference in a pool; none where the pool has no such row, or it is of no kind.
+    pub fn at(pool: &[u32], reference: u32) -> Option<Row> {
+        let number = (reference as usize).checked_sub(1)?;
+        let words = pool.chunks_exact(ROW_WORDS).nth(number)?;
+        Row::from_words(words.try_into().ok()?)
+    }
+
+    /// Puts the row into a pool in the place of a reference; false where the pool has no such row.
+    ///
+    /// ```
+    /// use shigthapul::{Kind, Row, ROW_WORDS};
+    ///
+    /// let mut pool = [0; 2 * ROW_WORDS];
+    /// let row = Row::new(Kind::Break, 4);
+    /// assert!(row.put(&mut pool, 2));
+    /// assert_eq!(Row::at(&pool, 2), Some(row));
+    /// assert!(!row.put(&mut pool, 0) && !row.put(&mut pool, 3));
+    /// ```
+    pub fn put(self, pool: &mut [u32], reference: u32) -> bool {
+        let number = (reference as usize).checked_sub(1);
+        match number.and_then(|number| pool.chunks_exact_mut(ROW_WORDS).nth(number)) {
+            Some(words) => words.copy_from_slice(&self.words()),
+            None => return false,
+        }
+        true
+    }
+
     /// The row of its words; none where the first is no kind.
     pub fn from_words(words: [u32; ROW_WORDS]) -> Option<Row> {
         let [kind, mark, place, c0, c1, c2, c3, next] = words;
@@ -110,9 +143,7 @@ impl<'a> Tree<'a> {
 
     /// The node of a reference, if there is such a row.
     pub fn node(self, reference: u32) -> Option<Node<'a>> {
-        let number = (reference as usize).checked_sub(1)?;
-        let words = self.words.chunks_exact(ROW_WORDS).nth(number)?;
-        let row = Row::from_words(words.try_into().ok()?)?;
+        let row = Row::at(self.words, reference)?;
         Some(Node { tree: self, reference, row })
     }
 
@@ -152,6 +183,12 @@ impl<'a> Tree<'a> {
     /// ```
     pub fn walk(self) -> Walk<'a> {
         Walk::new(self.root())
+    }
+
+    /// The tree as a script again, as [`write`](crate::write) writes it: every operation and call in
+    /// brackets, every simple statement with its semicolon. A tree with no root is refused.
+    pub fn to_tokens(self) -> Result<Tokens, Refusal> {
+        tokens_of(self.words, self.root)
     }
 }
 

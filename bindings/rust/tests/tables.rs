@@ -1,8 +1,9 @@
 //! The numbers, names and texts here are those of the C header and of the Rattle source.
 mod common;
-use common::text_of;
+use common::{repository, text_of};
 use shigthapul::{Infix, Keyword, Kind, Prefix, Reason, Suffix, Symbol, Token};
-use shigthapul::{MOST_ROWS, ROW_WORDS};
+use shigthapul::{MOST_ROWS, ROW_TOKENS, ROW_WORDS, SMALL_ROWS};
+use std::fs;
 
 /// A member of a table: its name in small letters without `_`, its number, its text.
 type Member = (String, u32, String);
@@ -64,11 +65,18 @@ fn the_c_header_has_the_same_classes() {
     }
 }
 
+/// The text of every file of Rattle code.
+fn rattle_source() -> String {
+    let folders = fs::read_dir(repository("crates")).unwrap();
+    let sources =
+        folders.filter_map(|folder| fs::read_dir(folder.unwrap().path().join("src")).ok());
+    let files = sources.flatten().map(|file| file.unwrap().path());
+    files.filter_map(|file| fs::read_to_string(file).ok()).collect()
+}
+
 #[test]
 fn the_rattle_source_has_the_same_numbers() {
-    let files =
-        ["crates/parser/src/names.rt", "crates/answer/src/lib.rt", "crates/files/src/lib.rt"];
-    let source: String = files.iter().map(|path| text_of(path)).collect();
+    let source = rattle_source();
     let constants: Vec<(String, u32)> = source.lines().filter_map(constant).collect();
     let known = members!(Reason).into_iter().chain(members!(Kind));
     for (name, number, _) in known {
@@ -112,6 +120,8 @@ fn size(path: &str, name: &str) -> usize {
 fn the_c_header_and_the_rattle_source_have_the_same_sizes() {
     assert_eq!(size("bindings/c/shigthapul.h", "SHIGTHAPUL_ROW_WORDS"), ROW_WORDS);
     assert_eq!(size("bindings/c/shigthapul.h", "SHIGTHAPUL_MOST_ROWS"), MOST_ROWS);
+    assert_eq!(size("bindings/c/shigthapul.h", "SHIGTHAPUL_SMALL_ROWS"), SMALL_ROWS);
+    assert_eq!(size("bindings/c/shigthapul.h", "SHIGTHAPUL_ROW_TOKENS"), ROW_TOKENS);
     assert_eq!(size("crates/rows/src/lib.rt", "const WIDTH: usize"), ROW_WORDS);
     assert_eq!(size("crates/rows/src/lib.rt", "const MOST: usize"), MOST_ROWS);
 }
@@ -132,6 +142,6 @@ fn numbers_and_members() {
         assert_eq!(Kind::from_number(kind.number()), Some(*kind));
     }
     assert_eq!([0, 20, 31, 47].map(Kind::from_number), [None; 4]);
-    assert_eq!([0, 7, 9, 31].map(Reason::from_number), [None; 4]);
+    assert_eq!([0, 7, 9, 31, 33, 37, 39].map(Reason::from_number), [None; 7]);
     assert_eq!(format!("{:>7}", Kind::Name), "   name");
 }

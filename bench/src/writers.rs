@@ -1,0 +1,195 @@
+//! The check of a tree and the writer, ours and the plain C ones, through the C interface.
+
+/// What is done with a tree, and by which.
+#[derive(Clone, Copy, Debug, PartialEq)]
+pub enum Writer {
+    OurCheck,
+    PlainCheck,
+    OurWrite,
+    PlainWrite,
+}
+
+/// The answer's words.
+pub type Answer = [u64; 4];
+
+impl Writer {
+    const ALL: [Writer; 4] =
+        [Writer::OurCheck, Writer::PlainCheck, Writer::OurWrite, Writer::PlainWrite];
+
+    /// Those that this bench was built with.
+    pub fn all() -> Vec<Writer> {
+        let there = |writer: &Writer| cfg!(feature = "ours") || !writer.is_ours();
+        Writer::ALL.iter().copied().filter(there).collect()
+    }
+
+    /// Whether it is ours, which the bench may be built without.
+    pub fn is_ours(self) -> bool {
+        matches!(self, Writer::OurCheck | Writer::OurWrite)
+    }
+
+    pub fn name(self) -> &'static str {
+        match self {
+            Writer::OurCheck => "check",
+            Writer::PlainCheck => "plain-check",
+            Writer::OurWrite => "write",
+            Writer::PlainWrite => "plain-write",
+        }
+    }
+
+    pub fn named(name: &str) -> Option<Writer> {
+        Writer::all().into_iter().find(|writer| writer.name() == name)
+    }
+
+    /// Checks the tree at a root, or checks and writes it.
+    pub fn run(self, pool: &[u32], root: usize, words: &mut [u16], places: &mut [u32]) -> Answer {
+        match self {
+            Writer::OurCheck => ours::check(pool, root),
+            Writer::PlainCheck => plain_check_of(pool, root),
+            Writer::OurWrite => ours::write(pool, root, words, places),
+            Writer::PlainWrite => plain_write_of(pool, root, words, places),
+        }
+    }
+}
+
+extern "C" {
+    fn plain_check(pool: *const u32, pool_words: usize, root: usize, answer: *mut u64);
+    fn plain_write(
+        pool: *const u32,
+        pool_words: usize,
+        root: usize,
+        words: *mut u16,
+        words_room: usize,
+        places: *mut u32,
+        places_room: usize,
+        answer: *mut u64,
+    );
+}
+
+fn plain_check_of(pool: &[u32], root: usize) -> Answer {
+    let mut answer = [0; 4];
+    unsafe { plain_check(pool.as_ptr(), pool.len(), root, answer.as_mut_ptr()) };
+    answer
+}
+
+fn plain_write_of(pool: &[u32], root: usize, words: &mut [u16], places: &mut [u32]) -> Answer {
+    let mut answer = [0; 4];
+    let (written, named) = (words.as_mut_ptr(), places.as_mut_ptr());
+    let (count, out) = (pool.len(), answer.as_mut_ptr());
+    unsafe {
+        plain_write(pool.as_ptr(), count, root, written, words.len(), named, places.len(), out)
+    };
+    answer
+}
+
+#[cfg(feature = "ours")]
+pub mod ours {
+    //! Ours, with the functions for threads with little stack, which the bench only compares.
+    use super::Answer;
+
+    type Check = unsafe extern "C" fn(*const u32, usize, usize, *mut u64, usize);
+    type Write = unsafe extern "C" fn(
+        *const u32,
+        usize,
+        usize,
+        *mut u16,
+        usize,
+        *mut u32,
+        usize,
+        *mut u64,
+        usize,
+    );
+
+    extern "C" {
+        fn shigthapul_check(
+            pool: *const u32,
+            pool_len: usize,
+            root: usize,
+            answer: *mut u64,
+            answer_len: usize,
+        );
+        fn shigthapul_check_small(
+            pool: *const u32,
+            pool_len: usize,
+            root: usize,
+            answer: *mut u64,
+            answer_len: usize,
+        );
+        fn shigthapul_write(
+            pool: *const u32,
+            pool_len: usize,
+            root: usize,
+            words: *mut u16,
+            words_len: usize,
+            places: *mut u32,
+            places_len: usize,
+            answer: *mut u64,
+            answer_len: usize,
+        );
+        fn shigthapul_write_small(
+            pool: *const u32,
+            pool_len: usize,
+            root: usize,
+            words: *mut u16,
+            words_len: usize,
+            places: *mut u32,
+            places_len: usize,
+            answer: *mut u64,
+            answer_len: usize,
+        );
+    }
+
+    fn check_by(function: Check, pool: &[u32], root: usize) -> Answer {
+        let mut answer = [0; 4];
+        unsafe { function(pool.as_ptr(), pool.len(), root, answer.as_mut_ptr(), answer.len()) };
+        answer
+    }
+
+    fn write_by(
+        function: Write,
+        pool: &[u32],
+        root: usize,
+        words: &mut [u16],
+        places: &mut [u32],
+    ) -> Answer {
+        let mut answer = [0; 4];
+        let (written, named) = (words.as_mut_ptr(), places.as_mut_ptr());
+        let (room, named_room) = (words.len(), places.len());
+        let (rows, length, out) = (pool.as_ptr(), pool.len(), answer.as_mut_ptr());
+        unsafe {
+            function(rows, length, root, written, room, named, named_room, out, answer.len())
+        };
+        answer
+    }
+
+    pub fn check(pool: &[u32], root: usize) -> Answer {
+        check_by(shigthapul_check, pool, root)
+    }
+
+    pub fn check_small(pool: &[u32], root: usize) -> Answer {
+        check_by(shigthapul_check_small, pool, root)
+    }
+
+    pub fn write(pool: &[u32], root: usize, words: &mut [u16], places: &mut [u32]) -> Answer {
+        write_by(shigthapul_write, pool, root, words, places)
+    }
+
+    pub fn write_small(pool: &[u32], root: usize, words: &mut [u16], places: &mut [u32]) -> Answer {
+        write_by(shigthapul_write_small, pool, root, words, places)
+    }
+}
+
+#[cfg(not(feature = "ours"))]
+pub mod ours {
+    //! Stands for ours where the bench is built without it.
+    use super::Answer;
+
+    pub fn check(_pool: &[u32], _root: usize) -> Answer {
+        unreachable!("`Writer::all` leaves it out")
+    }
+
+    pub fn write(_pool: &[u32], _root: usize, _words: &mut [u16], _places: &mut [u32]) -> Answer {
+        unreachable!("`Writer::all` leaves it out")
+    }
+
+    pub use {check as check_small, write as write_small};
+}

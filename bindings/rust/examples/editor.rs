@@ -1,0 +1,162 @@
+//! Reads a token file on standard input, changes the tree of its script, and prints the script anew:
+//!
+//! - the operands of the first infix row change places;
+//! - behind the last statement comes another one, which returns the last name of the script.
+//!
+//! ```text
+//! editor            reads in the old mode
+//! editor --strict   reads in strict mode
+//! ```
+//!
+//! The status is 0 where the script is accepted, 1 where it is refused, 2 where the command or its
+//! input can't be read.
+use shigthapul::{check, read_file, whole_script};
+use shigthapul::{Kind, Mode, Refusal, Row, Token, Tokens, ROW_WORDS, TOKEN_WORDS};
+use std::io::{self, Read};
+use std::process::ExitCode;
+
+/// The longest file and a byte more, and its tokens.
+const BYTES: u64 = 60_001;
+const TOKENS: usize = 20_000;
+
+fn main() -> ExitCode {
+    let words: Vec<String> = std::env::args().skip(1).collect();
+    let words: Vec<&str> = words.iter().map(String::as_str).collect();
+    let mode = match words[..] {
+        [] => Mode::Old,
+        ["--strict"] => Mode::Strict,
+        _ => {
+            eprintln!("usage: editor [--strict] < FILE.tok");
+            return ExitCode::from(2);
+        }
+    };
+    let mut file = vec![];
+    if let Err(error) = io::stdin().lock().take(BYTES).read_to_end(&mut file) {
+        eprintln!("editor: {}", error);
+        return ExitCode::from(2);
+    }
+    match edited(&file, mode) {
+        Ok(tokens) => {
+            let payloads = payloads(&file);
+            println!("{}", tokens.text(|token, place| spelled(token, payloads[place])));
+            ExitCode::SUCCESS
+        }
+        Err(refusal) => {
+            println!("{}", refusal);
+            ExitCode::FAILURE
+        }
+    }
+}
+
+/// The tokens of a file's script after the changes.
+fn edited(file: &[u8], mode: Mode) -> Result<Tokens, Refusal> {
+    let mut words = vec![0; TOKENS];
+    let tokens = read_file(file, &mut words)?;
+    let mut pool = vec![0; TOKEN_WORDS * tokens.len()];
+    let tree = whole_script(tokens, &mut pool, mode)?;
+    let (root, rows) = (tree.root().map_or(0, |root| root.reference()), tree.len());
+    pool.truncate(ROW_WORDS * rows);
+    let mut script = Script { pool, root };
+    script.swap_operands();
+    script.add_return();
+    check(&script.pool, script.root)?.to_tokens()
+}
+
+/// A script in a pool of just its rows, which can be changed.
+struct Script {
+    pool: Vec<u32>,
+    root: u32,
+}
+
+impl Script {
+    /// The references of all rows, with their rows.
+    fn rows(&self) -> impl DoubleEndedIterator<Item = (u32, Row)> + '_ {
+        let references = 1..=(self.pool.len() / ROW_WORDS) as u32;
+        references.filter_map(|reference| Some((reference, Row::at(&self.pool, reference)?)))
+    }
+
+    /// Adds a row behind all others, and gives its reference.
+    fn append(&mut self, row: Row) -> u32 {
+        self.pool.extend(row.words());
+        (self.pool.len() / ROW_WORDS) as u32
+    }
+
+    /// Has the operands of the first infix row change places. Both are earlier rows, so they still are.
+    fn swap_operands(&mut self) {
+        let first = self.rows().find(|(_, row)| row.kind == Kind::Infix);
+        if let Some((reference, mut row)) = first {
+            row.children.swap(0, 1);
+            row.put(&mut self.pool, reference);
+        }
+    }
+
+    /// Adds a statement that returns the last name, whose place tells it.
+    fn add_return(&mut self) {
+        let last = self.rows().rev().find(|(_, row)| row.kind == Kind::Identifier);
+        let name = last.map_or(0, |(_, row)| self.append(Row::new(Kind::Identifier, row.place)));
+        let row = Row { children: [name, 0, 0, 0], ..Row::new(Kind::Return, 0) };
+        let statement = self.append(row);
+        self.add_statement(statement);
+    }
+
+    /// Adds a statement to the script's block. A list may go on with any later row, but a row's own
+    /// children come before it: so a block that was empty is made anew.
+    fn add_statement(&mut self, statement: u32) {
+        let mut block = Row::at(&self.pool, self.root).expect("a script has a block");
+        if block.children[0] == 0 {
+            block.children[0] = statement;
+            self.root = self.append(block);
+            return;
+        }
+        let mut last = block.children[0];
+        let mut row = Row::at(&self.pool, last).expect("a list has rows");
+        while row.next != 0 {
+            last = row.next;
+            row = Row::at(&self.pool, last).expect("a list has rows");
+        }
+        row.next = statement;
+        row.put(&mut self.pool, last);
+    }
+}
+
+/// The payloads of a file that was accepted, by the places of their tokens.
+fn payloads(mut file: &[u8]) -> Vec<&[u8]> {
+    let mut found = vec![];
+    while let [_, high, low, rest @ ..] = file {
+        let (payload, behind) = rest.split_at(256 * usize::from(*high) + usize::from(*low));
+        found.push(payload);
+        file = behind;
+    }
+    found
+}
+
+/// The text of a token by its payload, in the form of `tools/tokens`.
+fn spelled(token: Token, payload: &[u8]) -> String {
+    let number = payload.iter().fold(0_u64, |number, &byte| number << 8 | u64::from(byte));
+    match token {
+        Token::Integer => (number as i64).to_string(),
+        Token::Float => float(f64::from_bits(number)),
+        Token::Char => format!("'\\u{{{:X}}}'", number),
+        Token::Str => format!("\"{}\"", escaped(payload, b"\\\"")),
+        _ => escaped(payload, b"\\"),
+    }
+}
+
+/// A float by the fewest digits that are read as the same again, with a point.
+fn float(value: f64) -> String {
+    let text = format!("{:?}", value);
+    match text.split_once('e') {
+        Some((digits, exponent)) if !digits.contains('.') => format!("{}.0e{}", digits, exponent),
+        _ => text,
+    }
+}
+
+/// Bytes as text, those that are no plain letters or signs escaped, and some signs too.
+fn escaped(bytes: &[u8], signs: &[u8]) -> String {
+    let escape = |&byte: &u8| match byte {
+        _ if signs.contains(&byte) => format!("\\{}", byte as char),
+        b' '..=b'~' => (byte as char).to_string(),
+        _ => format!("\\x{:02X}", byte),
+    };
+    bytes.iter().map(escape).collect()
+}
