@@ -1,11 +1,12 @@
 -- What an entry answers to what was read, and what it does with the pool.
 use Prim.Native.Nat.{ℕ}
+use mathlib.Core.Path.{_≡_}
 use mathlib.Core.List.{List, [], _∷_}
 use lib.Dec.{ltb}
 use lib.ListN.{length, replicate}
 use Rattle.grammar.specs.Tree.{Trees, sizes}
 use Rattle.grammar.specs.Parsed.{Parsed, refused, read, Check, met, failed, need, BadStart}
-use Rattle.grammar.specs.Script.{both, array-good}
+use Rattle.grammar.specs.Script.{both, array-good, pool}
 use Rattle.answer.specs.declared.Answer.{Answer}
 use Rattle.answer.specs.declared.Answer.the-variants as an
 use Rattle.answer.specs.declared.Start.{Start}
@@ -22,6 +23,11 @@ answered (read us at left) = an.Accepted (sizes us) (sizes us) at
 abbrev pub numbers : Answer → List ℕ
 numbers (an.Accepted root rows place) = 0 ∷ root ∷ rows ∷ place ∷ []
 numbers (an.Refused number place) = number ∷ place ∷ 0 ∷ 0 ∷ []
+
+-- The promise of an entry that is lent so many words: its answer, and every word of the pool as it is then.
+pub record Entered (P : Parsed Trees) (r : Answer) (words : ℕ) (ys : List ℕ) : Type 0 where
+  pub answer : r ≡ answered P
+  pub left : ys ≡ pool words P
 
 -- The check of an array and of a start place.
 unfoldable pub checks : List ℕ → ℕ → Check

@@ -1,7 +1,8 @@
-// The mode of reading, and the signs that it asks for.
+// The mode of reading, the signs that it asks for, and how deep any mode reads.
 use tokens::Symbol;
 use words::Cursor;
 ghost use mathlib.Core.Path.{_≡_};
+ghost use Rattle.grammar.specs.Script.{nesting};
 ghost use Rattle.tokens.specs.Tokens.{word};
 ghost use Rattle.tokens.specs.declared.Token.the-variants as token;
 ghost use Rattle.modes.specs.Modes.{chosen, asked, comes};
@@ -17,6 +18,16 @@ pub enum Mode {
 pub enum Due {
     Always,
     By(Mode),
+}
+
+// How many expressions and statements may be open at once.
+const NESTING: usize = 64;
+
+// The same, for the readers.
+pub fn nesting() -> usize
+    ensures { λ r. ⌜ r ≡ nesting ⌝ }
+{
+    NESTING
 }
 
 // The mode by whether it is strict.

@@ -14,7 +14,7 @@ use Rattle.files.specs.declared.Fields.the-variants.{Count, Refused}
 use Rattle.files.specs.File.{Content, read, refused}
 use Rattle.files.specs.Entry.{content, answered, file-answer, file-buffer}
 use Rattle.files.proofs.Outcomes.{Accepted, accepted}
-use Rattle.parser.specs.Entries.{Entered}
+use Rattle.answer.specs.Answer.{Entered}
 use Rattle.lines.specs.Lines.{text, from}
 use Rattle.outline.specs.Outlined.{outcome, outlined}
 

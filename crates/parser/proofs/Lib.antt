@@ -1,15 +1,2 @@
-mod Slots
-mod Fronts
-mod Answers
-mod Parts
-mod Roots
-mod Loops
-mod Moves
-mod Matches
-mod Bodies
-mod Shared
-mod Ends
-mod Lists
-mod Wholes
 mod Promised
 mod Determined

@@ -12,9 +12,8 @@ use Rattle.grammar.proofs.Rows.{pool-rule}
 use Rattle.grammar.specs.Claims.{Unless}
 use Rattle.grammar.proofs.Strict.{strict-or-same}
 use Rattle.grammar.proofs.Suffices.{rows-enough, largest-enough, rows-full}
-use Rattle.answer.specs.Answer.{answered, numbers}
+use Rattle.answer.specs.Answer.{Entered, answered, numbers}
 use Rattle.answer.specs.declared.Answer.the-variants.{Accepted, Refused}
-use Rattle.parser.specs.Entries.{Entered}
 use Rattle.parser.specs.Promises.{Numbered, ZeroAfter, Opens, ChainsAnswered, RuleAnswered, EnoughAnswered, SameUnless, GiveUnless, StrictAnswered, AcceptsToo, StrictAccepted}
 
 numbers-are : (P : Parsed Trees) → numbers (answered P) ≡ answer P

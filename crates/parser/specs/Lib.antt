@@ -1,5 +1,2 @@
--- What the readers ask and ensure.
-pub mod Meets
-pub mod Contracts
-pub mod Entries
+-- What is promised of the entries.
 pub mod Promises

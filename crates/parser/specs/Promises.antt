@@ -13,8 +13,7 @@ use Rattle.modes.specs.declared.Mode.the-variants.{Old, Strict}
 use Rattle.modes.specs.Modes.{by}
 use Rattle.answer.specs.declared.Answer.{Answer}
 use Rattle.answer.specs.declared.Answer.the-variants.{Accepted, Refused}
-use Rattle.parser.specs.Entries.{Entered}
-use Rattle.answer.specs.Answer.{numbers}
+use Rattle.answer.specs.Answer.{Entered, numbers}
 
 -- The number and the values of an entry's answer are those of the definition.
 abbrev pub Numbered : Type 0

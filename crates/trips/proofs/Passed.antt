@@ -24,7 +24,7 @@ use Rattle.written.proofs.Fits.{parser-fits, parser-roots}
 use Rattle.writer.specs.declared.Wrote.{Wrote}
 use Rattle.writer.specs.declared.Wrote.the-variants as wrote
 use Rattle.writer.specs.Wrote.{answered, Writes, no-tree, a-text}
-use Rattle.parser.specs.Entries.{Entered}
+use Rattle.answer.specs.Answer.{Entered}
 use Rattle.trips.specs.Promises.{OfAccepted, ParserPasses, ParserWritten}
 use Rattle.trips.proofs.Texts.{with-room}
 

@@ -20,7 +20,7 @@ use Rattle.written.specs.Written.{written}
 use Rattle.written.specs.Claims.{plain, plains, deep, entry-of, asked, reread, back-from-end, Back, Deeper}
 use Rattle.written.proofs.Trip.{round-trip}
 use Rattle.written.proofs.Deep.{deep-refused}
-use Rattle.parser.specs.Entries.{Entered}
+use Rattle.answer.specs.Answer.{Entered}
 use Rattle.trips.specs.Promises.{CameBack, IsTooDeep, OfTexts, RoundTripAnswered, ReadBackAnswered, DeepAnswered}
 use Rattle.trips.proofs.Texts.{of-tree}
 

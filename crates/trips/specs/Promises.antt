@@ -21,7 +21,7 @@ use Rattle.written.specs.Claims.{plain, deep, entry-of, asked, back-from-end}
 use Rattle.writer.specs.declared.Wrote.{Wrote}
 use Rattle.writer.specs.declared.Wrote.the-variants as wrote
 use Rattle.writer.specs.Wrote.{Writes}
-use Rattle.parser.specs.Entries.{Entered}
+use Rattle.answer.specs.Answer.{Entered}
 
 -- The text of a tree: so many words and places, in front of two slices.
 pub record Text (t : Tree) (n : ℕ) (ws ps : List ℕ) : Type 0 where

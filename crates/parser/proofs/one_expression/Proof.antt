@@ -1,6 +1,6 @@
 -- `one_expression` meets its contract: the entry for it.
 use Rattle.grammar.specs.Script.{one-expression}
-use Rattle.parser.specs.Entries.{enters, reads}
+use Rattle.reader.specs.Entries.{enters, reads}
 use borrow.Author.Needs.{needs}
 use Rattle.parser.proofs.one_expression.Statement.{statement}
 use Rattle.parser.proofs.one_expression.Tie as tie

@@ -1,6 +1,6 @@
 -- `one_statement` meets its contract: the entry for it.
 use Rattle.grammar.specs.Script.{one-statement}
-use Rattle.parser.specs.Entries.{enters, reads}
+use Rattle.reader.specs.Entries.{enters, reads}
 use borrow.Author.Needs.{needs}
 use Rattle.parser.proofs.one_statement.Statement.{statement}
 use Rattle.parser.proofs.one_statement.Tie as tie

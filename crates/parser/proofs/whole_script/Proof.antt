@@ -1,5 +1,5 @@
 -- `whole_script` meets its contract: the entry for it, which starts where every good array does.
-use Rattle.parser.proofs.Wholes.{whole-enters}
+use Rattle.reader.proofs.Wholes.{whole-enters}
 use borrow.Author.Needs.{needs}
 use Rattle.parser.proofs.whole_script.Statement.{statement}
 use Rattle.parser.proofs.whole_script.Tie as tie
