@@ -102,7 +102,7 @@ pub extern "C" fn shigthapul_check(pool: &[u32], root: usize, answer: &mut [u64]
         return;
     }
     let checked = trees::check_large(pool, root);
-    four::put_checked(answer, checked);
+    four_trees::put_checked(answer, checked);
 }
 
 // The same of the front of a pool, with little stack whatever the pool.
@@ -111,7 +111,7 @@ pub extern "C" fn shigthapul_check_small(pool: &[u32], root: usize, answer: &mut
     ensures { λ _. ⌜ Checks (front (now (pool .entry))) root (now (answer .entry)) (now (answer .exit)) ⌝ }
 {
     let checked = trees::check_small(pool, root);
-    four::put_checked(answer, checked);
+    four_trees::put_checked(answer, checked);
 }
 
 // Writes the tree at a root as token words, and the places of their payloads. It calls itself as the check does.
@@ -134,7 +134,7 @@ pub extern "C" fn shigthapul_write(
         return;
     }
     let wrote = writer::write_large(pool, root, words, places);
-    four::put_wrote(answer, wrote);
+    four_trees::put_wrote(answer, wrote);
 }
 
 // The same of the front of a pool, with little stack whatever the pool.
@@ -149,5 +149,5 @@ pub extern "C" fn shigthapul_write_small(
     ensures { λ _. ⌜ Puts (front (now (pool .entry))) root (now (words .entry)) (now (places .entry)) (now (answer .entry)) (now (words .exit)) (now (places .exit)) (now (answer .exit)) ⌝ }
 {
     let wrote = writer::write_small(pool, root, words, places);
-    four::put_wrote(answer, wrote);
+    four_trees::put_wrote(answer, wrote);
 }

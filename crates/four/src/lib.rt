@@ -2,17 +2,13 @@
 use answer::Answer;
 use files::Fields;
 use text::Folded;
-use trees::Checked;
-use writer::Wrote;
 ghost use mathlib.Core.Path.{_≡_};
 ghost use mathlib.Core.List.{[], _∷_};
 ghost use Rattle.answer.specs.Answer.{numbers};
-ghost use Rattle.trees.specs.Verdict as verdict;
-ghost use Rattle.writer.specs.Wrote as wrote;
 ghost use Rattle.four.specs.Answers.{over, file-words, fold-words, text-words};
 
 // Writes four words into the front of a slice, as far as it goes.
-fn put(words: &mut [u64], first: u32, second: usize, third: usize, fourth: usize)
+pub fn put(words: &mut [u64], first: u32, second: usize, third: usize, fourth: usize)
     ensures { λ _. ⌜ now (words .exit) ≡ over (first ∷ second ∷ third ∷ fourth ∷ []) (now (words .entry)) ⌝ }
 {
     let room = words.len();
@@ -79,32 +75,4 @@ pub fn put_text<'a>(words: &mut [u64], payload: &'a [u8], work: &'a [u8])
     let text = text::text(payload, work);
     let is_work = text.len() != payload.len();
     put(words, 0, text.len(), is_work as usize, 0);
-}
-
-// Writes what checking a tree answers.
-pub fn put_checked(words: &mut [u64], checked: Checked)
-    ensures { λ _. ⌜ now (words .exit) ≡ over (verdict.numbers checked) (now (words .entry)) ⌝ }
-{
-    match checked {
-        Checked::Tree => {
-            put(words, 0, 0, 0, 0);
-        }
-        Checked::Refused(number, place) => {
-            put(words, number, place, 0, 0);
-        }
-    }
-}
-
-// Writes what writing a tree answers.
-pub fn put_wrote(words: &mut [u64], outcome: Wrote)
-    ensures { λ _. ⌜ now (words .exit) ≡ over (wrote.numbers outcome) (now (words .entry)) ⌝ }
-{
-    match outcome {
-        Wrote::Tokens(tokens) => {
-            put(words, 0, tokens, 0, 0);
-        }
-        Wrote::Refused(number, place) => {
-            put(words, number, place, 0, 0);
-        }
-    }
 }

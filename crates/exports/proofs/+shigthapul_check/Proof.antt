@@ -13,7 +13,7 @@ use Rattle.exports.proofs.shigthapul_check.Reads as reads
 use Rattle.exports.proofs.shigthapul_check.Kinds as kinds
 use Rattle.exports.proofs.+shigthapul_check.Lts-shigthapul_check as lts
 use Rattle.exports.proofs.shigthapul_check_small.Reads as check-small
-use Rattle.four.proofs.put_checked.Reads as put-checked
+use Rattle.four_trees.proofs.put_checked.Reads as put-checked
 use Rattle.rows.proofs.end.Reads as end
 use Rattle.trees.proofs.check_large.Reads as check-large
 use Rattle.exports.proofs.+shigthapul_check.{statement}

@@ -13,7 +13,7 @@ use Rattle.exports.proofs.shigthapul_write.Reads as reads
 use Rattle.exports.proofs.shigthapul_write.Kinds as kinds
 use Rattle.exports.proofs.+shigthapul_write.Lts-shigthapul_write as lts
 use Rattle.exports.proofs.shigthapul_write_small.Reads as write-small
-use Rattle.four.proofs.put_wrote.Reads as put-wrote
+use Rattle.four_trees.proofs.put_wrote.Reads as put-wrote
 use Rattle.rows.proofs.end.Reads as end
 use Rattle.writer.proofs.write_large.Reads as write-large
 use Rattle.exports.proofs.+shigthapul_write.{statement}

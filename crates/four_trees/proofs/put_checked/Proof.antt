@@ -1,6 +1,6 @@
--- `four::put_checked` meets its contract: each case has its four words.
-use Rattle.four.proofs.put_checked.Statement.{statement}
-use Rattle.four.proofs.put_checked.Tie as tie
+-- `four_trees::put_checked` meets its contract: each case has its four words.
+use Rattle.four_trees.proofs.put_checked.Statement.{statement}
+use Rattle.four_trees.proofs.put_checked.Tie as tie
 
 enum-told : tie.Need-enum-told
 enum-told c = c .match .keys1

@@ -1,6 +1,6 @@
--- `four::put_wrote` meets its contract: each case has its four words.
-use Rattle.four.proofs.put_wrote.Statement.{statement}
-use Rattle.four.proofs.put_wrote.Tie as tie
+-- `four_trees::put_wrote` meets its contract: each case has its four words.
+use Rattle.four_trees.proofs.put_wrote.Statement.{statement}
+use Rattle.four_trees.proofs.put_wrote.Tie as tie
 
 enum-known-outcome : tie.Need-enum-known-outcome
 enum-known-outcome c = c .match .keys1
