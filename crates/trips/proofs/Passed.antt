@@ -26,7 +26,7 @@ use Rattle.writer.specs.declared.Wrote.the-variants as wrote
 use Rattle.writer.specs.Wrote.{answered, Writes, no-tree, a-text}
 use Rattle.answer.specs.Answer.{Entered}
 use Rattle.trips.specs.Promises.{OfAccepted, ParserPasses, ParserWritten}
-use Rattle.trips.proofs.Texts.{with-room}
+use Rattle.writer.proofs.Outcomes.{fitting}
 
 -- A pool holds a tree at a root.
 abbrev Some : (root : ℕ) (ys : List ℕ) → Type 0
@@ -97,7 +97,7 @@ writes : (ys : List ℕ) (root w p : ℕ) (r : Wrote) (ws ps : List ℕ) (t : Tr
     → r ≡ wrote.Tokens (length (written t))
 writes ys root w p r ws ps t i x y (no-tree number place v e a b) =
     let q : checked.Refused number place ≡ checked.Tree = exact ys root .1 t _ i v in let z : _≡_ {A = ℕ} 0 1 = cc in absurd (omega arith)
-writes ys root w p r ws ps t i x y (a-text u v o f e a b) = e ∙ ap (λ k. answered (written k) w p) (one-tree ys o (i .holds)) ∙ with-room (written t) w p x y
+writes ys root w p r ws ps t i x y (a-text u v o f e a b) = e ∙ ap (λ k. answered (written k) w p) (one-tree ys o (i .holds)) ∙ fitting (written t) w p x y
 
 pub parser-written : ParserWritten
 parser-written = carry (λ root ys t i. (t, i, λ w p r ws ps x y h. writes ys root w p r ws ps t i x y h))

@@ -6,7 +6,7 @@ use mathlib.Core.Bool.{Bool, true, false, cond, _&&_, and-eq-true-iff}
 use mathlib.Core.List.{List, [], _∷_, map}
 use lib.Dec.{leb}
 use lib.ListN.{length, take}
-use borrow.Author.Tests.{leb-true, le-leb}
+use borrow.Author.Tests.{leb-true}
 use Rattle.grammar.specs.Tree.{Tree}
 use Rattle.trees.specs.Pool.{Holds}
 use Rattle.trees.specs.Exact.{IsTree}
@@ -36,10 +36,6 @@ counted ts w p n = go (leb (length ts) w && leb (length ts) p) refl
         let (a, b) = and-eq-true-iff (leb (length ts) w) (leb (length ts) p) .0 e in
         (cc, leb-true (length ts) w a, leb-true (length ts) p b)
     go false e q = let z : _≡_ {A = ℕ} 0 1 = cc in absurd (omega arith)
-
-pub with-room : (ts : List Token) (w p : ℕ) → length ts ≤ w → length ts ≤ p → answered ts w p ≡ wrote.Tokens (length ts)
-unfolding answered
-with-room ts w p a b = rw (le-leb _ _ a, le-leb _ _ b)
 
 text : (t : Tree) (w p n : ℕ) (ws ps : List ℕ) → wrote.Tokens n ≡ answered (written t) w p → ws ≡ front w (words (written t)) → ps ≡ front p (places (written t))
     → Text t n ws ps

@@ -26,7 +26,7 @@ use Rattle.writer.specs.Wrote.{front, answered, left, TooShort, Writes, 
 use Rattle.writer.specs.Ready.{Ready, Walked}
 
 -- the answer for a text
-fitting : (ts : List Token) (w p : ℕ) → length ts ≤ w → length ts ≤ p → answered ts w p ≡ answer.Tokens (length ts)
+pub fitting : (ts : List Token) (w p : ℕ) → length ts ≤ w → length ts ≤ p → answered ts w p ≡ answer.Tokens (length ts)
 unfolding answered
 fitting ts w p a b = rw (le-leb _ _ a, le-leb _ _ b)
 

@@ -19,6 +19,8 @@ use Rattle.trees.specs.Verdict.{NoneBad}
 use Rattle.rows.specs.Rows.{read}
 use Rattle.trees.proofs.Words.{read-in}
 use Rattle.written.specs.Written.{Token, Piece, sign, payload, by-mark, flagged, where-some, child, children, form, forms, look, piece, pieces, joined, separated, empty-slot, write, writes, written}
+use Rattle.written.proofs.Shapes.{or-true}
+use Rattle.slots.proofs.Either.{no-both}
 use Rattle.writer.specs.Codes.{shape, word-for, behind}
 use Rattle.writer.specs.Walk.{upward, shown, some-of, filled, text, Moved, into, between, along, up, onward, move}
 use Rattle.writer.proofs.Shapes.{real, single, are-statements, sign-between, fair, Piece-at, at-piece, few-pieces, behind-few, weigh, shape-weighs}
@@ -83,13 +85,6 @@ by-slot P a b c d (suc (suc (suc (suc i)))) h = absurd (omega arith)
 -- the trees of four slots by the words of the row
 abbrev four : Trees → Trees → Trees → Trees → ℕ → Trees
 four a b c d k = getD (nil ∷ nil ∷ nil ∷ a ∷ b ∷ c ∷ d ∷ []) k nil
-
-no-both : {A : Type 0} → true ≡ false → A
-no-both e = let z : _≡_ {A = ℕ} 0 1 = cc in absurd (omega arith)
-
-or-true : (a b : Bool) → a || b ≡ true → (a ≡ true) ⊎ (b ≡ true)
-or-true true b h = inl refl
-or-true false b h = inr h
 
 between-two : (a k b : ℕ) → leb a k && ltb k b ≡ true → (a ≤ k) × (k < b)
 between-two a k b h = let (x, y) = and-eq-true-iff (leb a k) (ltb k b) .0 h in (leb-true a k x, ltb-true k b y)
