@@ -18,6 +18,10 @@ mod written;
 mod words;
 
 // Shared with the bindings.
+#[cfg(feature = "ours")]
+#[allow(dead_code)]
+#[path = "../../bindings/rust/src/raw.rs"]
+mod raw;
 #[allow(dead_code)]
 #[path = "../../bindings/rust/src/sizes.rs"]
 mod sizes;

@@ -63,19 +63,6 @@ extern "C" {
     );
 }
 
-#[cfg(feature = "ours")]
-extern "C" {
-    fn shigthapul_whole_script(
-        tokens: *const u16,
-        count: usize,
-        pool: *mut u32,
-        words: usize,
-        strict: bool,
-        answer: *mut u64,
-        answer_count: usize,
-    );
-}
-
 /// The plain C reader's answer to a script.
 pub fn plain(tokens: &[u16], pool: &mut [u32]) -> [u64; 4] {
     let mut answer = [0; 4];
@@ -97,9 +84,7 @@ pub fn strict(tokens: &[u16], pool: &mut [u32]) -> [u64; 4] {
 #[cfg(feature = "ours")]
 fn in_mode(tokens: &[u16], pool: &mut [u32], strict: bool) -> [u64; 4] {
     let mut answer = [0; 4];
-    let (words, rows, out) = (tokens.as_ptr(), pool.as_mut_ptr(), answer.as_mut_ptr());
-    let (count, length) = (tokens.len(), pool.len());
-    unsafe { shigthapul_whole_script(words, count, rows, length, strict, out, answer.len()) };
+    crate::raw::whole_script(tokens, pool, strict, &mut answer);
     answer
 }
 

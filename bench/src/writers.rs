@@ -85,96 +85,29 @@ fn plain_write_of(pool: &[u32], root: usize, words: &mut [u16], places: &mut [u3
 pub mod ours {
     //! Ours, with the functions for threads with little stack, which the bench only compares.
     use super::Answer;
+    use crate::raw;
 
-    type Check = unsafe extern "C" fn(*const u32, usize, usize, *mut u64, usize);
-    type Write = unsafe extern "C" fn(
-        *const u32,
-        usize,
-        usize,
-        *mut u16,
-        usize,
-        *mut u32,
-        usize,
-        *mut u64,
-        usize,
-    );
-
-    extern "C" {
-        fn shigthapul_check(
-            pool: *const u32,
-            pool_len: usize,
-            root: usize,
-            answer: *mut u64,
-            answer_len: usize,
-        );
-        fn shigthapul_check_small(
-            pool: *const u32,
-            pool_len: usize,
-            root: usize,
-            answer: *mut u64,
-            answer_len: usize,
-        );
-        fn shigthapul_write(
-            pool: *const u32,
-            pool_len: usize,
-            root: usize,
-            words: *mut u16,
-            words_len: usize,
-            places: *mut u32,
-            places_len: usize,
-            answer: *mut u64,
-            answer_len: usize,
-        );
-        fn shigthapul_write_small(
-            pool: *const u32,
-            pool_len: usize,
-            root: usize,
-            words: *mut u16,
-            words_len: usize,
-            places: *mut u32,
-            places_len: usize,
-            answer: *mut u64,
-            answer_len: usize,
-        );
-    }
-
-    fn check_by(function: Check, pool: &[u32], root: usize) -> Answer {
+    /// The answer that a call writes.
+    fn answer_of(call: impl FnOnce(&mut [u64])) -> Answer {
         let mut answer = [0; 4];
-        unsafe { function(pool.as_ptr(), pool.len(), root, answer.as_mut_ptr(), answer.len()) };
-        answer
-    }
-
-    fn write_by(
-        function: Write,
-        pool: &[u32],
-        root: usize,
-        words: &mut [u16],
-        places: &mut [u32],
-    ) -> Answer {
-        let mut answer = [0; 4];
-        let (written, named) = (words.as_mut_ptr(), places.as_mut_ptr());
-        let (room, named_room) = (words.len(), places.len());
-        let (rows, length, out) = (pool.as_ptr(), pool.len(), answer.as_mut_ptr());
-        unsafe {
-            function(rows, length, root, written, room, named, named_room, out, answer.len())
-        };
+        call(&mut answer);
         answer
     }
 
     pub fn check(pool: &[u32], root: usize) -> Answer {
-        check_by(shigthapul_check, pool, root)
+        answer_of(|answer| raw::check(pool, root, answer))
     }
 
     pub fn check_small(pool: &[u32], root: usize) -> Answer {
-        check_by(shigthapul_check_small, pool, root)
+        answer_of(|answer| raw::check_small(pool, root, answer))
     }
 
     pub fn write(pool: &[u32], root: usize, words: &mut [u16], places: &mut [u32]) -> Answer {
-        write_by(shigthapul_write, pool, root, words, places)
+        answer_of(|answer| raw::write(pool, root, words, places, answer))
     }
 
     pub fn write_small(pool: &[u32], root: usize, words: &mut [u16], places: &mut [u32]) -> Answer {
-        write_by(shigthapul_write_small, pool, root, words, places)
+        answer_of(|answer| raw::write_small(pool, root, words, places, answer))
     }
 }
 

@@ -5,6 +5,7 @@
 #include <stdlib.h>
 #include <string.h>
 
+#include "counted.h"
 #include "spelled.h"
 
 enum { TOKENS = 32, POOL = SHIGTHAPUL_TOKEN_WORDS * TOKENS, MODES = 2 };
@@ -23,15 +24,9 @@ static struct {
     uint32_t pool[POOL];
 } found[MODES];
 
-static int passed, failed;
-
 static void check(bool holds, const char *what) {
-    if (holds) {
-        passed++;
-    } else {
-        failed++;
+    if (!counted(holds))
         printf("%s: %s", what, example.text);
-    }
 }
 
 /* The word of a token by its text: a word in hexadecimal, an empty line, a sign, a keyword, or else a name. */
@@ -128,6 +123,5 @@ int main(void) {
             answers = 0;
         }
     }
-    printf("%d passed; %d failed\n", passed, failed);
-    return failed > 0 || passed == 0;
+    return print_counts();
 }

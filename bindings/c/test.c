@@ -3,6 +3,7 @@
 #include <stdio.h>
 #include <string.h>
 
+#include "counted.h"
 #include "shigthapul.h"
 
 enum {
@@ -18,16 +19,11 @@ enum {
 #define ANSWER(answer) (answer).words, SHIGTHAPUL_ANSWER_WORDS
 #define CHECK(holds) check(holds, #holds, __LINE__)
 
-static int passed, failed;
 static uint32_t pool[10 * SHIGTHAPUL_ROW_WORDS];
 
 static void check(bool holds, const char *text, int line) {
-    if (holds) {
-        passed++;
-    } else {
-        failed++;
+    if (!counted(holds))
         printf("line %d: %s\n", line, text);
-    }
 }
 
 static const struct shigthapul_row LEAF = {.kind = SHIGTHAPUL_KIND_IDENTIFIER, .place = 4};
@@ -169,6 +165,5 @@ int main(void) {
     test_tree();
     test_numbers();
     test_short_answer();
-    printf("%d passed; %d failed\n", passed, failed);
-    return failed > 0;
+    return print_counts();
 }

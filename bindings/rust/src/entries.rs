@@ -1,4 +1,5 @@
 //! The three entries that read tokens.
+use crate::answer::accepted;
 use crate::{raw, Mode, Refusal, Tree};
 
 /// Reads one expression from a start place. What stands behind it is not looked at.
@@ -25,9 +26,7 @@ pub fn one_expression<'a>(
     start: usize,
     mode: Mode,
 ) -> Result<Tree<'a>, Refusal> {
-    let mut answer = [0; 4];
-    raw::one_expression(tokens, pool, start, mode.is_strict(), &mut answer);
-    tree_of(answer, pool)
+    tree_of(pool, |pool, answer| raw::one_expression(tokens, pool, start, mode.is_strict(), answer))
 }
 
 /// Reads one statement from a start place. A lone Empty token is accepted, and gives no root.
@@ -52,9 +51,7 @@ pub fn one_statement<'a>(
     start: usize,
     mode: Mode,
 ) -> Result<Tree<'a>, Refusal> {
-    let mut answer = [0; 4];
-    raw::one_statement(tokens, pool, start, mode.is_strict(), &mut answer);
-    tree_of(answer, pool)
+    tree_of(pool, |pool, answer| raw::one_statement(tokens, pool, start, mode.is_strict(), answer))
 }
 
 /// Reads a whole script. The root is a block at place 0.
@@ -73,14 +70,14 @@ pub fn whole_script<'a>(
     pool: &'a mut [u32],
     mode: Mode,
 ) -> Result<Tree<'a>, Refusal> {
-    let mut answer = [0; 4];
-    raw::whole_script(tokens, pool, mode.is_strict(), &mut answer);
-    tree_of(answer, pool)
+    tree_of(pool, |pool, answer| raw::whole_script(tokens, pool, mode.is_strict(), answer))
 }
 
-/// The tree of an answer's words.
-fn tree_of(answer: [u64; 4], pool: &[u32]) -> Result<Tree<'_>, Refusal> {
-    Refusal::check(&answer)?;
-    let [_, root, rows, place] = answer;
+/// The tree that a call reads into a pool, or its refusal.
+fn tree_of(
+    pool: &mut [u32],
+    call: impl FnOnce(&mut [u32], &mut [u64]),
+) -> Result<Tree<'_>, Refusal> {
+    let [root, rows, place] = accepted(|answer| call(pool, answer))?;
     Ok(Tree::new(pool, root as u32, rows as usize, place as usize))
 }

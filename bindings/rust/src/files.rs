@@ -1,4 +1,5 @@
 //! The token file reader.
+use crate::answer::counted;
 use crate::{raw, Refusal};
 
 /// Reads a token file into the front of a buffer of words, and hands back the words of its fields.
@@ -21,8 +22,6 @@ use crate::{raw, Refusal};
 /// assert_eq!(words, [0; 5]);
 /// ```
 pub fn read_file<'a>(bytes: &[u8], words: &'a mut [u16]) -> Result<&'a [u16], Refusal> {
-    let mut answer = [0; 4];
-    raw::read_file(bytes, words, &mut answer);
-    Refusal::check(&answer)?;
-    Ok(&words[..answer[1] as usize])
+    let count = counted(|answer| raw::read_file(bytes, words, answer))?;
+    Ok(&words[..count])
 }

@@ -36,6 +36,7 @@
 #[macro_use]
 mod table;
 
+mod answer;
 mod entries;
 mod files;
 mod kind;

@@ -79,15 +79,6 @@ impl Refusal {
     pub const fn number(self) -> u32 {
         self.reason.number()
     }
-
-    /// The refusal of an answer's words, if it is one.
-    pub(crate) fn check(answer: &[u64; 4]) -> Result<(), Refusal> {
-        if answer[0] == 0 {
-            return Ok(());
-        }
-        let reason = Reason::from_number(answer[0] as u32).expect("a number of the table");
-        Err(Refusal { reason, place: answer[1] as usize })
-    }
 }
 
 impl fmt::Display for Refusal {

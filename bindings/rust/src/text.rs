@@ -1,4 +1,5 @@
 //! The text of strings.
+use crate::answer::counted;
 use crate::{raw, Refusal};
 
 /// Folds a string's payload, and answers the length of its text.
@@ -19,10 +20,7 @@ use crate::{raw, Refusal};
 /// assert_eq!(fold(payload, &mut work[..6]).unwrap_err().reason, Reason::NoRoom);
 /// ```
 pub fn fold(payload: &[u8], work: &mut [u8]) -> Result<usize, Refusal> {
-    let mut answer = [0; 4];
-    raw::fold(payload, work, &mut answer);
-    Refusal::check(&answer)?;
-    Ok(answer[1] as usize)
+    counted(|answer| raw::fold(payload, work, answer))
 }
 
 /// The text of a string: its own payload where that has no pair of backslashes, otherwise the front

@@ -1,4 +1,5 @@
 //! Trees back to tokens: the check of a tree in any pool, and the writer.
+use crate::answer::{accepted, counted};
 use crate::{raw, Node, Refusal, Tokens, Tree, Walk, MOST_ROWS, ROW_TOKENS, ROW_WORDS};
 
 /// Checks that the rows which a root reaches in a pool are a tree, and hands it back.
@@ -30,24 +31,15 @@ use crate::{raw, Node, Refusal, Tokens, Tree, Walk, MOST_ROWS, ROW_TOKENS, ROW_W
 /// assert_eq!((refusal.reason, refusal.place), (Reason::NoTree, 1));
 /// ```
 pub fn check(pool: &[u32], root: u32) -> Result<Checked<'_>, Refusal> {
-    let mut answer = [0; 4];
-    raw::check(pool, root as usize, &mut answer);
-    checked(answer, pool, root)
+    accepted(|answer| raw::check(pool, root as usize, answer))?;
+    Ok(Checked::new(pool, root))
 }
 
 /// The same for a thread with little stack. It looks only at the first
 /// [`SMALL_ROWS`](crate::SMALL_ROWS) rows of the pool, as if there were no more.
 pub fn check_small(pool: &[u32], root: u32) -> Result<Checked<'_>, Refusal> {
-    let mut answer = [0; 4];
-    raw::check_small(pool, root as usize, &mut answer);
-    checked(answer, pool, root)
-}
-
-/// The tree of a check's answer.
-fn checked(answer: [u64; 4], pool: &[u32], root: u32) -> Result<Checked<'_>, Refusal> {
-    Refusal::check(&answer)?;
-    let rows = (pool.len() / ROW_WORDS).min(MOST_ROWS);
-    Ok(Checked { tree: Tree::new(pool, root, rows, 0) })
+    accepted(|answer| raw::check_small(pool, root as usize, answer))?;
+    Ok(Checked::new(pool, root))
 }
 
 /// Checks a tree as [`check`] does, and writes it as a script into the fronts of two buffers; answers
@@ -78,10 +70,7 @@ pub fn write(
     words: &mut [u16],
     places: &mut [u32],
 ) -> Result<usize, Refusal> {
-    let mut answer = [0; 4];
-    raw::write(pool, root as usize, words, places, &mut answer);
-    Refusal::check(&answer)?;
-    Ok(answer[1] as usize)
+    counted(|answer| raw::write(pool, root as usize, words, places, answer))
 }
 
 /// The same for a thread with little stack. It looks only at the first
@@ -92,10 +81,7 @@ pub fn write_small(
     words: &mut [u16],
     places: &mut [u32],
 ) -> Result<usize, Refusal> {
-    let mut answer = [0; 4];
-    raw::write_small(pool, root as usize, words, places, &mut answer);
-    Refusal::check(&answer)?;
-    Ok(answer[1] as usize)
+    counted(|answer| raw::write_small(pool, root as usize, words, places, answer))
 }
 
 /// The tokens of the tree at a root, in buffers that are large enough for it.
@@ -130,6 +116,12 @@ pub struct Checked<'a> {
 }
 
 impl<'a> Checked<'a> {
+    /// The tree at a root that a check has accepted.
+    fn new(pool: &'a [u32], root: u32) -> Checked<'a> {
+        let rows = (pool.len() / ROW_WORDS).min(MOST_ROWS);
+        Checked { tree: Tree::new(pool, root, rows, 0) }
+    }
+
     /// The root: a block, a statement or an expression.
     pub fn root(self) -> Node<'a> {
         self.tree.root().expect("the check has found it")
