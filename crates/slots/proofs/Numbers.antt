@@ -1,11 +1,9 @@
 -- Slots and kinds, and their numbers.
-use Prim.Native.Nat.{ℕ, zero, suc, _+_, _*_, _-_, _/_, _%_, _^_, _≤_, _<_}
-use native.Mathlib.Nat.{add-zero, zero-add, add-suc, suc-add, le-of-suc-le-suc, not-suc-le-zero}
+use Prim.Native.Nat.{ℕ, _-_, _/_, _%_, _^_, _≤_, _<_}
 use native.Mathlib.Omega.{arith}
 use mathlib.Core.Path.{_≡_, refl}
 use mathlib.Core.Bool.{Bool, true, _&&_, and-eq-true-iff}
 use mathlib.Core.Logic.{⊎-elim}
-use mathlib.Core.List.{List, [], _∷_}
 use lib.Dec.{leb, ltb}
 use lib.ListN.{length, getD, List·getD-eq-default}
 use borrow.Author.Tests.{le-ltb, leb-true, ltb-true}
@@ -100,16 +98,3 @@ no-slot k i h = rw (List·getD-eq-default (kind-of k .slots) (no of names) {n = 
 pub packed-small : (k : ℕ) → packed k < 2 ^ 40
 unfolding packed
 packed-small k = omega (arith, bounds k, code-small (slot k 0), code-small (slot k 1), code-small (slot k 2), code-small (slot k 3))
-
--- the numbers of so many kinds, from one on
-abbrev numbers : (count at : ℕ) → List ℕ
-numbers zero at = []
-numbers (suc n) at = packed at ∷ numbers n (suc at)
-
-numbered : (n at k : ℕ) → k < n → getD (numbers n at) k 0 ≡ packed (at + k)
-numbered zero at k h = absurd (not-suc-le-zero h)
-numbered (suc n) at zero h = rw (add-zero at)
-numbered (suc n) at (suc k) h = rw (add-suc at k, ← (suc-add at k)) (numbered n (suc at) k (le-of-suc-le-suc h))
-
-pub listed : (n k : ℕ) → k < n → getD (numbers n 0) k 0 ≡ packed k
-listed n k h = rw (zero-add k) at (numbered n 0 k h)

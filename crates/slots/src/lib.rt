@@ -5,76 +5,56 @@ ghost use Rattle.slots.specs.Slots.{slot, kind-of, is-expression, marked
 ghost use Rattle.slots.specs.Codes.{code, packed, kinds-of, slot-of};
 ghost use Rattle.slots.specs.Fine.{is-no, is-list, child-fine, next-fine, taken};
 
-// How many numbers of kinds the table has.
-const COUNT: u32 = 47;
-
-// The kinds by number, two hexadecimal digits for each of: how many marks it has, its slots c0, c1, c2 and c3. A slot's first digit is how many it takes
-// (0 none, 1 one, 2 one or none, 3 any number, 4 one or more), the second is which kinds (0 names, 1 expressions, 2 statements, 3 blocks, 4 pairs,
-// 5 a plain identifier, 6 a root).
-const KINDS: [u64; 47] = [
-    0,
-    0x01_00_00_00_00, // 1 none
-    0x01_00_00_00_00, // 2 identifier
-    0x01_00_00_00_00, // 3 int
-    0x01_00_00_00_00, // 4 float
-    0x01_00_00_00_00, // 5 char
-    0x01_00_00_00_00, // 6 string
-    0x02_00_00_00_00, // 7 bool
-    0x01_31_00_00_00, // 8 array
-    0x01_34_00_00_00, // 9 hash
-    0x01_11_11_00_00, // 10 index
-    0x04_11_31_00_00, // 11 call
-    0x17_11_11_00_00, // 12 infix
-    0x04_11_00_00_00, // 13 prefix
-    0x02_11_00_00_00, // 14 suffix
-    0x01_41_11_00_00, // 15 lambda
-    0x02_11_00_00_00, // 16 shell
-    0x01_15_40_00_00, // 17 attribute
-    0x01_00_00_00_00, // 18 name
-    0x01_11_11_00_00, // 19 pair
-    0,
-    0,
-    0,
-    0,
-    0,
-    0,
-    0,
-    0,
-    0,
-    0,
-    0,
-    0,
-    0x01_00_00_00_00, // 32 break
-    0x01_00_00_00_00, // 33 continue
-    0x01_21_00_00_00, // 34 var
-    0x01_11_00_00_00, // 35 const
-    0x01_21_00_00_00, // 36 return
-    0x01_11_00_00_00, // 37 throw
-    0x01_11_00_00_00, // 38 expression
-    0x01_13_11_13_23, // 39 try
-    0x01_31_13_00_00, // 40 function
-    0x01_11_11_13_00, // 41 for
-    0x01_11_13_00_00, // 42 while
-    0x01_11_11_00_00, // 43 assert
-    0x01_11_13_23_00, // 44 if
-    0x01_11_11_11_13, // 45 foreach
-    0x01_32_00_00_00, // 46 block
-];
-
 // The slot of a root.
 pub const ROOT: u8 = 0x16;
 
 // The mark's number that says that an expression is in brackets.
 const GROUPED: u32 = 256;
 
-// The number of a kind; 0 for no kind.
+// The number of a kind, 0 for no kind: two hexadecimal digits for each of how many marks it has and its slots c0, c1, c2 and c3. A slot's first digit
+// is how many it takes (0 none, 1 one, 2 one or none, 3 any number, 4 one or more), the second is which kinds (0 names, 1 expressions, 2 statements,
+// 3 blocks, 4 pairs, 5 a plain identifier, 6 a root). A line for each kind, and so longer than other functions; not a `const` array, which would be
+// built anew at each use.
 fn row(kind: u32) -> u64
     ensures { λ r. ⌜ (r ≡ packed kind) × (r < 2 ^ 40) ⌝ }
 {
-    if kind < COUNT {
-        return KINDS[kind as usize];
+    match kind {
+        1 => 0x01_00_00_00_00, // none
+        2 => 0x01_00_00_00_00, // identifier
+        3 => 0x01_00_00_00_00, // int
+        4 => 0x01_00_00_00_00, // float
+        5 => 0x01_00_00_00_00, // char
+        6 => 0x01_00_00_00_00, // string
+        7 => 0x02_00_00_00_00, // bool
+        8 => 0x01_31_00_00_00, // array
+        9 => 0x01_34_00_00_00, // hash
+        10 => 0x01_11_11_00_00, // index
+        11 => 0x04_11_31_00_00, // call
+        12 => 0x17_11_11_00_00, // infix
+        13 => 0x04_11_00_00_00, // prefix
+        14 => 0x02_11_00_00_00, // suffix
+        15 => 0x01_41_11_00_00, // lambda
+        16 => 0x02_11_00_00_00, // shell
+        17 => 0x01_15_40_00_00, // attribute
+        18 => 0x01_00_00_00_00, // name
+        19 => 0x01_11_11_00_00, // pair
+        32 => 0x01_00_00_00_00, // break
+        33 => 0x01_00_00_00_00, // continue
+        34 => 0x01_21_00_00_00, // var
+        35 => 0x01_11_00_00_00, // const
+        36 => 0x01_21_00_00_00, // return
+        37 => 0x01_11_00_00_00, // throw
+        38 => 0x01_11_00_00_00, // expression
+        39 => 0x01_13_11_13_23, // try
+        40 => 0x01_31_13_00_00, // function
+        41 => 0x01_11_11_13_00, // for
+        42 => 0x01_11_13_00_00, // while
+        43 => 0x01_11_11_00_00, // assert
+        44 => 0x01_11_13_23_00, // if
+        45 => 0x01_11_11_11_13, // foreach
+        46 => 0x01_32_00_00_00, // block
+        _ => 0,
     }
-    0
 }
 
 // What slot i of a kind takes, by number; 0 for no slot.

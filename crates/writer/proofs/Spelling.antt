@@ -71,6 +71,16 @@ pub no-shape : (k : ℕ) → 46 < k → shape k ≡ []
 unfolding shape
 no-shape k h = rw (ne-eqb k 0 (λ z. omega arith), le-ltb k 47 (omega arith))
 
+gaps : map (λ i. shape (20 + i)) (range 12) ≡ map (λ i. []) (range 12)
+unfolding shape form forms look
+gaps = refl
+
+pub gap-shape : (k : ℕ) → 20 ≤ k → k < 32 → shape k ≡ []
+gap-shape k l h =
+    let e : 20 + (k - 20) ≡ k = omega arith in
+    let z : shape (20 + (k - 20)) ≡ [] = map-at (λ i. shape (20 + i)) (λ i. []) 12 gaps (k - 20) (omega arith) in
+    rw e at z
+
 pub short : (k : ℕ) → length (shape k) ≤ 8
 short k = go (ltb k 47) refl
   where
