@@ -1,2 +1,3 @@
--- What is proved of the contracts.
+-- A law that the functions' proofs share, and what is proved of the contracts.
+mod Arms
 pub mod Determined

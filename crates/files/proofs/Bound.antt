@@ -5,7 +5,7 @@ use Prim.Native.Nat.{ℕ, zero, suc, _≤_}
 use native.Mathlib.Omega.{arith}
 use lib.ListN.{length, drop, length-drop}
 use Rattle.fields.specs.declared.Field.{Field}
-use Rattle.fields.specs.declared.Field.the-variants.{Good, Bad}
+use Rattle.fields.specs.declared.Field.the-variants.{Good, Refused}
 use Rattle.fields.specs.Field.{first}
 use Rattle.files.specs.File.{fields}
 use Rattle.files.proofs.Pass.{taken, none-left, good-next, bad-next}
@@ -25,4 +25,4 @@ same-fields (suc b) (suc b′) number (x ∷ bytes) h h′ = go (first (x ∷ by
         let some = taken (x ∷ bytes) e .some in
         let rest = same (drop width (x ∷ bytes)) (simp length-drop (omega arith)) (simp length-drop (omega arith)) in
         rw (good-next b number (x ∷ bytes) (omega arith) e, good-next b′ number (x ∷ bytes) (omega arith) e, rest)
-    go Bad e same = rw (bad-next b number (x ∷ bytes) (omega arith) e, bad-next b′ number (x ∷ bytes) (omega arith) e)
+    go (Refused n) e same = rw (bad-next b number (x ∷ bytes) (omega arith) e, bad-next b′ number (x ∷ bytes) (omega arith) e)

@@ -2,6 +2,7 @@
 pub mod Pass
 pub mod Outcomes
 pub mod Bound
+pub mod Payloads
 pub mod Determined
 pub mod Examples
 mod Cleared

@@ -1,17 +1,17 @@
--- What a file can give: words that the buffer has room for, or refusal 6 or 3 at place 0, or 5 at the number of a field.
-use mathlib.Core.Path.{_≡_, refl}
-use mathlib.Core.Bool.{Bool, true, false, cond}
+-- What a file can give: words that the buffer has room for, or refusal 6 or 3 at place 0, or 5 or 33 at the number of a field.
+use mathlib.Core.Path.{_≡_, refl, subst}
+use mathlib.Core.Bool.{Bool, true, false, cond, _&&_}
 use mathlib.Core.List.{List, [], _∷_}
-use Prim.Native.Nat.{ℕ, zero, suc, _≤_}
+use Prim.Native.Nat.{ℕ, zero, suc, _+_, _*_, _≤_}
 use native.Mathlib.Omega.{arith}
 use borrow.Author.Tests.{leb-true}
 use lib.Dec.{leb}
-use lib.ListN.{length}
+use lib.ListN.{length, take}
 use Rattle.fields.specs.declared.Field.{Field}
-use Rattle.fields.specs.declared.Field.the-variants.{Good, Bad}
-use Rattle.fields.specs.Field.{first}
+use Rattle.fields.specs.declared.Field.the-variants as field
+use Rattle.fields.specs.Field.{head, BadField, NotUnicode, allowed, unicode, first}
 use Rattle.files.specs.declared.Fields.the-variants.{Count, Refused}
-use Rattle.files.specs.File.{Content, read, refused, NoRoom, BadField, TooLong, most, before, fields}
+use Rattle.files.specs.File.{Content, read, refused, NoRoom, TooLong, most, before, fields}
 use Rattle.files.specs.Entry.{within, content, answer, answered}
 use Rattle.files.proofs.Pass.{good-next, bad-next}
 
@@ -19,13 +19,36 @@ use Rattle.files.proofs.Pass.{good-next, bad-next}
 pub data Refusal : (number place : ℕ) → Type 0 where
   too-long : Refusal TooLong 0
   bad-field : (number : ℕ) → Refusal BadField number
+  not-unicode : (number : ℕ) → Refusal NotUnicode number
   no-room : Refusal NoRoom 0
 
 -- each is answered as one
-as-refused : {number place : ℕ} → Refusal number place → answer number place ≡ Refused number place
+pub as-refused : {number place : ℕ} → Refusal number place → answer number place ≡ Refused number place
 as-refused too-long = refl
 as-refused (bad-field number) = refl
+as-refused (not-unicode number) = refl
 as-refused no-room = refl
+
+-- a bad field's is one of two
+pub refusal : (part : List ℕ) {n : ℕ} → first part ≡ field.Refused n → (number : ℕ) → Refusal n number
+unfolding first
+refusal part {n} e number = by-part part e
+  where
+    bad : field.Refused BadField ≡ field.Refused n → Refusal n number
+    bad f = let same : BadField ≡ n = cc in subst (λ m. Refusal m number) same (bad-field number)
+
+    go : (t u : Bool) (w width : ℕ) → cond t (cond u (field.Good w width) (field.Refused NotUnicode)) (field.Refused BadField) ≡ field.Refused n → Refusal n number
+    go true true w width f = let z : _≡_ {A = ℕ} 0 1 = cc in absurd (omega arith)
+    go true false w width f = let same : NotUnicode ≡ n = cc in subst (λ m. Refusal m number) same (not-unicode number)
+    go false u w width f = bad f
+
+    by-part : (bytes : List ℕ) → first bytes ≡ field.Refused n → Refusal n number
+    by-part [] f = bad f
+    by-part (tag ∷ []) f = bad f
+    by-part (tag ∷ high ∷ []) f = bad f
+    by-part (tag ∷ high ∷ low ∷ rest) f =
+        let size = high * 256 + low in
+        go (allowed tag size && leb size (length rest)) (unicode tag (take size rest)) _ _ f
 
 -- that words meet a condition, and a refusal is one of them
 abbrev Among : (List ℕ → Type 0) → Content → Type 0
@@ -49,8 +72,8 @@ fields-among (suc bound) number (b ∷ bytes) = go (first (b ∷ bytes)) refl (f
   where
     go : (f : Field) → first (b ∷ bytes) ≡ f → ((rest : List ℕ) → Among Any (fields bound (suc number) rest))
         → Among Any (fields (suc bound) number (b ∷ bytes))
-    go (Good w width) e k = rw (good-next bound number (b ∷ bytes) (omega arith) e) (before-among w _ (k _))
-    go Bad e k = rw (bad-next bound number (b ∷ bytes) (omega arith) e) (bad-field number)
+    go (field.Good w width) e k = rw (good-next bound number (b ∷ bytes) (omega arith) e) (before-among w _ (k _))
+    go (field.Refused n) e k = rw (bad-next bound number (b ∷ bytes) (omega arith) e) (refusal (b ∷ bytes) e number)
 
 -- words that a buffer has room for
 abbrev Fit : (room : ℕ) → List ℕ → Type 0

@@ -7,11 +7,11 @@ use native.Mathlib.Numerals.{add-one}
 use native.Mathlib.Omega.{arith}
 use borrow.Author.Tests.{leb-true}
 use lib.Dec.{leb}
-use lib.ListN.{length, drop, set, length-append, length-drop, drop-of-length-le}
+use lib.ListN.{length, take, drop, set, length-append, length-drop, drop-of-length-le}
 use lib.Seq.{drop-cons, drop-drop, append-snoc, set-at}
-use Rattle.fields.specs.declared.Field.the-variants.{Good, Bad}
-use Rattle.fields.specs.Field.{head, allowed, first}
-use Rattle.files.specs.File.{Content, read, refused, BadField, before, fields}
+use Rattle.fields.specs.declared.Field.the-variants.{Good, Refused}
+use Rattle.fields.specs.Field.{head, BadField, NotUnicode, allowed, unicode, first}
+use Rattle.files.specs.File.{Content, read, refused, before, fields}
 
 -- words, and then those that follow; a refusal stays
 unfoldable pub join : List ℕ → Content → Content
@@ -29,7 +29,7 @@ join-more done w (read words) = rw append-assoc
 join-more done w (refused number place) = refl
 
 -- no field is both
-never : {w width : ℕ} → Bad ≡ Good w width → ⊥
+pub never : {n w width : ℕ} → Refused n ≡ Good w width → ⊥
 never e = let z : _≡_ {A = ℕ} 0 1 = cc in omega arith
 
 -- a good field takes some bytes, and no more than there are
@@ -42,17 +42,19 @@ unfolding first
 taken [] e = absurd (never e)
 taken (tag ∷ []) e = absurd (never e)
 taken (tag ∷ high ∷ []) e = absurd (never e)
-taken (tag ∷ high ∷ low ∷ rest) {w} {width} e = go (allowed tag size && leb size (length rest)) refl _ e
+taken (tag ∷ high ∷ low ∷ rest) {w} {width} e = go (allowed tag size && leb size (length rest)) refl (unicode tag (take size rest)) _ e
   where
     size : ℕ
     size = high * 256 + low
 
-    go : (t : Bool) → allowed tag size && leb size (length rest) ≡ t → (x : ℕ) → cond t (Good x (head + size)) Bad ≡ Good w width → Taken (tag ∷ high ∷ low ∷ rest) width
-    go true t x f =
+    go : (t : Bool) → allowed tag size && leb size (length rest) ≡ t → (u : Bool) (x : ℕ)
+        → cond t (cond u (Good x (head + size)) (Refused NotUnicode)) (Refused BadField) ≡ Good w width → Taken (tag ∷ high ∷ low ∷ rest) width
+    go true t true x f =
         let all : head + size ≡ width = cc in
         let fits = leb-true size (length rest) (and-eq-true-iff (allowed tag size) (leb size (length rest)) .0 t .1) in
         record { some = omega arith; held = omega arith }
-    go false t x f = absurd (never f)
+    go true t false x f = absurd (never f)
+    go false t u x f = absurd (never f)
 
 -- without bytes there are no fields
 pub none-left : (bound number : ℕ) → fields bound number [] ≡ read []
@@ -68,7 +70,7 @@ good-next bound number [] h e = absurd (omega arith)
 good-next bound number (b ∷ part) h e = rw (e, fields)
 
 -- a bad field is refused with its number
-pub bad-next : (bound number : ℕ) (part : List ℕ) → 0 < length part → first part ≡ Bad → fields (suc bound) number part ≡ refused BadField number
+pub bad-next : (bound number : ℕ) (part : List ℕ) {n : ℕ} → 0 < length part → first part ≡ Refused n → fields (suc bound) number part ≡ refused n number
 unfolding fields
 bad-next bound number [] h e = absurd (omega arith)
 bad-next bound number (b ∷ part) h e = rw (e, fields)
@@ -112,7 +114,7 @@ module _ {bytes buffer words : List ℕ} {at count : ℕ} (pass : Pass bytes buf
     some-left = simp length-drop (omega arith)
 
     -- a bad field stops it
-    pub stopped : first (drop at bytes) ≡ Bad → fields (length bytes) 0 bytes ≡ refused BadField count
+    pub stopped : {n : ℕ} → first (drop at bytes) ≡ Refused n → fields (length bytes) 0 bytes ≡ refused n count
     unfolding join
     stopped e = pass .left ∙ rw (bound, bad-next (length bytes - (count + 1)) count (drop at bytes) some-left e)
 

@@ -2,7 +2,7 @@
 use Prim.Native.Nat.{ℕ, zero, suc}
 use mathlib.Core.List.{List, [], _∷_}
 use lib.ListN.{drop}
-use Rattle.fields.specs.declared.Field.the-variants.{Good, Bad}
+use Rattle.fields.specs.declared.Field.the-variants.{Good, Refused}
 use Rattle.fields.specs.Field.{first}
 
 -- What a file holds: the words of its fields in order, or a refusal's number and place.
@@ -13,10 +13,6 @@ pub data Content : Type 0 where
 -- The refusal of a buffer with too few words.
 abbrev pub NoRoom : ℕ
 NoRoom = 3
-
--- The refusal of a field that is cut short, has a tag above the classes, or a wrong length.
-abbrev pub BadField : ℕ
-BadField = 5
 
 -- The refusal of a file with too many bytes.
 abbrev pub TooLong : ℕ
@@ -31,9 +27,9 @@ unfoldable pub before : ℕ → Content → Content
 before w (read words) = read (w ∷ words)
 before w (refused number place) = refused number place
 
--- The words of the fields, the first of which has this number. There are no more fields than bytes, which is the bound.
+-- The words of the fields, the first of which has this number; the first one that is bad is refused at its own. There are no more fields than bytes, which is the bound.
 unfoldable pub fields : (bound number : ℕ) → List ℕ → Content
 fields zero number bytes = read []
 fields (suc bound) number [] = read []
 fields (suc bound) number (b ∷ bytes) =
-    elim (first (b ∷ bytes)) [ Good w width ↦ before w (fields bound (suc number) (drop width (b ∷ bytes))) | Bad ↦ refused BadField number ]
+    elim (first (b ∷ bytes)) [ Good w width ↦ before w (fields bound (suc number) (drop width (b ∷ bytes))) | Refused n ↦ refused n number ]

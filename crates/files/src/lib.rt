@@ -13,9 +13,6 @@ const MOST: usize = 60000;
 // The refusal of a buffer with too few words.
 const NO_ROOM: u32 = 3;
 
-// The refusal of a field that is cut short, has a tag above the classes, or a wrong length.
-const BAD_FIELD: u32 = 5;
-
 // The refusal of a file with too many bytes.
 const TOO_LONG: u32 = 6;
 
@@ -39,15 +36,16 @@ fn fill(bytes: &[u8], words: &mut [u16]) -> Fields
     let mut at = 0;
     let mut count = 0;
     while at < bytes.len() {
-        let field = fields::first_field(&bytes[at..]);
-        let Field::Good(word, width) = field else {
-            return Fields::Refused(BAD_FIELD, count);
-        };
-        if count < words.len() {
-            words[count] = word;
+        match fields::first_field(&bytes[at..]) {
+            Field::Refused(number) => return Fields::Refused(number, count),
+            Field::Good(word, width) => {
+                if count < words.len() {
+                    words[count] = word;
+                }
+                at += width;
+                count += 1;
+            }
         }
-        at += width;
-        count += 1;
     }
     if words.len() < count {
         return Fields::Refused(NO_ROOM, 0);

@@ -1,3 +1,4 @@
--- The definitions that the contracts of `text` cite.
+-- The definitions that the contracts of `text` cite, and what is claimed of them.
 pub mod Fold
 pub mod Entries
+pub mod Claims

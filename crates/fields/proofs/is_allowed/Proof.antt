@@ -8,12 +8,9 @@ use borrow.Author.Tests.{eq-eqb, ne-eqb, le-leb, lt-leb, eqb-false}
 use lib.Dec.{eqb, leb}
 use Rattle.grammar.specs.Words.{Operator, Keyword, class}
 use Rattle.fields.specs.Field.{coded, allowed, Unknown}
+use Rattle.fields.proofs.Arms.{neither}
 use Rattle.fields.proofs.is_allowed.Statement.{statement}
 use Rattle.fields.proofs.is_allowed.Tie as tie
-
--- what is not one of two is neither
-neither : {P Q : Type 0} → (P ⊎ Q → ⊥) → (P → ⊥) × (Q → ⊥)
-neither f = (λ p. f (inl p), λ q. f (inr q))
 
 -- a number that is not the lowest is above it
 above : (k : ℕ) {n : ℕ} → k ≤ n → (n ≡ k → ⊥) → k + 1 ≤ n

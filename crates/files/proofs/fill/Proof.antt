@@ -16,6 +16,7 @@ use Rattle.files.specs.declared.Fields.the-variants.{Count, Refused}
 use Rattle.files.specs.File.{Content, read, refused, most}
 use Rattle.files.specs.Entry.{within, content, answered}
 use Rattle.files.proofs.Pass.{Pass, begun, ended, stopped, on, turned}
+use Rattle.files.proofs.Outcomes.{Refusal, too-long, no-room, as-refused, refusal}
 use Rattle.files.proofs.fill.Statement.{statement}
 use Rattle.files.proofs.fill.Tie as tie
 
@@ -30,9 +31,9 @@ abbrev Promised : Content → Fields → (buffer words : List ℕ) → Type 0
 Promised c r buffer words = (r ≡ answered c) × ((ws : List ℕ) → c ≡ read ws → words ≡ ws ++ drop (length ws) buffer)
 
 -- a refusal keeps it, whatever the buffer
-refuses : (n place : ℕ) {c : Content} → c ≡ refused (suc n) place → (buffer words : List ℕ) → Promised c (Refused (suc n) place) buffer words
-refuses n place e buffer words =
-    (rw e, λ ws f. let z : _≡_ {A = ℕ} 0 1 = cc in absurd (omega arith))
+refuses : {n place : ℕ} {c : Content} → Refusal n place → c ≡ refused n place → (buffer words : List ℕ) → Promised c (Refused n place) buffer words
+refuses r e buffer words =
+    (rw e (sym (as-refused r)), λ ws f. let z : _≡_ {A = ℕ} 0 1 = cc in absurd (omega arith))
 
 -- words that stand at the front of the buffer keep it, with their count
 accepts : {done : List ℕ} {count : ℕ} {c : Content} → c ≡ read done → length done ≡ count → (buffer words : List ℕ)
@@ -51,20 +52,20 @@ seen c =
     c .first-field .ensures ∙ rw (take-all _ (ahead turn) long)
 
 -- a good one
-module _ (c : tie.After-field Inv-loop μ-loop) where
+module _ (c : tie.After-word Inv-loop μ-loop) where
   abbrev turn : tie.In-loop Inv-loop μ-loop
   turn = c .before .before .before .before
 
-  found : first (ahead turn) ≡ Good (c .field .given .0 .0) (c .field .given .0 .1 .0)
-  found = sym (seen (c .before .before)) ∙ c .field .given .1
+  found : first (ahead turn) ≡ Good (c .word .given .0 .0) (c .word .given .0 .1 .0)
+  found = sym (seen (c .before .before)) ∙ c .word .given .1
 
   -- where it ends
-  next : (0 < c .field .given .0 .1 .0) × (turn .before .loop .at + c .field .given .0 .1 .0 ≤ length (turn .before .before .before .before .before .args .bytes .now))
+  next : (0 < c .word .given .0 .1 .0) × (turn .before .loop .at + c .word .given .0 .1 .0 ≤ length (turn .before .before .before .before .before .args .bytes .now))
   next = on (turn .before .loop .inv) (turn .loop-test .taken) found
 
 returns : tie.Need-returns Inv-loop μ-loop
 unfolding content
-returns c = refuses 5 0 (rw (lt-leb _ most (c .if1 .taken))) _ _
+returns c = refuses too-long (rw (lt-leb _ most (c .if1 .taken))) _ _
 
 loop-holds : tie.Need-loop-holds Inv-loop μ-loop
 loop-holds c = begun (c .before .before .before .args .bytes .now) (c .before .before .before .args .words .now)
@@ -81,22 +82,22 @@ part-first-field-end c = omega arith
 first-field-requires : tie.Need-first-field-requires Inv-loop μ-loop
 first-field-requires c κs = tt
 
-enum-known-field : tie.Need-enum-known-field Inv-loop μ-loop
-enum-known-field c = c .match .keys1
-
-enum-told : tie.Need-enum-told Inv-loop μ-loop
-enum-told c = c .match .keys2
+enum-known-number : tie.Need-enum-known-number Inv-loop μ-loop
+enum-known-number c = c .match .keys1
 
 same-length : tie.Need-same-length Inv-loop μ-loop
-same-length c = c .before .before .before .before .before .loop .inv .same
+same-length c = c .before .before .before .before .before .before .loop .inv .same
 
 returns-2 : tie.Need-returns-2 Inv-loop μ-loop
 unfolding content within
 returns-2 c =
-    let at-turn = c .before .before .before .before in
+    let at-turn = c .before .before .before .before .before in
     let at-loop = at-turn .before in
-    let bad = sym (seen (c .before .before)) ∙ c .enum-told .given .1 in
-    refuses 4 (at-loop .loop .count) (rw (le-leb _ most (at-loop .before .if1 .left), stopped (at-loop .loop .inv) (at-turn .loop-test .taken) bad)) _ _
+    let bad = sym (seen (c .before .before .before)) ∙ c .before .number .given .1 in
+    refuses (refusal (ahead at-turn) bad (at-loop .loop .count)) (rw (le-leb _ most (at-loop .before .if1 .left), stopped (at-loop .loop .inv) (at-turn .loop-test .taken) bad)) _ _
+
+enum-known-word : tie.Need-enum-known-word Inv-loop μ-loop
+enum-known-word c = c .match .keys2
 
 mul-words : tie.Need-mul-words Inv-loop μ-loop
 mul-words c = search needs
@@ -132,7 +133,7 @@ returns-3 c =
     let at-loop = c .before .before in
     let pass = at-loop .loop .inv in
     let short : length (at-loop .before .before .before .before .args .words .now) < length (pass .done) = omega (arith, pass .counted, pass .same, c .if3 .taken) in
-    refuses 2 0 (rw (le-leb _ most (at-loop .before .if1 .left), ended pass (c .before .loop-test .left), lt-leb _ _ short)) _ _
+    refuses no-room (rw (le-leb _ most (at-loop .before .if1 .left), ended pass (c .before .loop-test .left), lt-leb _ _ short)) _ _
 
 same-length-3 : tie.Need-same-length-3 Inv-loop μ-loop
 same-length-3 c = c .before .before .loop .inv .same
@@ -158,10 +159,10 @@ fill-spec =
     part-first-field-start
     part-first-field-end
     first-field-requires
-    enum-known-field
-    enum-told
+    enum-known-number
     same-length
     returns-2
+    enum-known-word
     mul-words
     slice-write-words
     add-at
