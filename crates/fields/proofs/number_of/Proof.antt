@@ -46,7 +46,7 @@ pair-of-requires-2 : tie.Need-pair-of-requires-2
 pair-of-requires-2 c κs = tt
 
 mul-result : tie.Need-mul-result
-mul-result c = omega (arith, upper c)
+mul-result c = omega (arith, upper c, lower c)
 
 add-result : tie.Need-add-result
 add-result c = omega (arith, upper c, lower c)
