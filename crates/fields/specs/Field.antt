@@ -55,12 +55,18 @@ unicode tag payload = cond (eqb tag (class Char)) (scalar (number 0 payload)) (c
 abbrev pub word : (tag : ℕ) (payload : List ℕ) → ℕ
 word tag payload = tag * 256 + cond (coded tag) (getD payload 0 0) 0
 
--- The first field, a tag, a length with its high byte first, and a payload: its word and how many bytes it takes, or the number of its refusal.
+-- The field of a tag and its payload: its word and how many bytes it takes, or the number of its refusal.
+unfoldable pub whole : (tag : ℕ) (payload : List ℕ) → Field
+whole tag payload =
+    cond (allowed tag (length payload))
+    (cond (unicode tag payload) (Good (word tag payload) (head + length payload)) (Refused NotUnicode))
+    (Refused BadField)
+
+-- The first field: a tag, a length with its high byte first, and a payload of that length.
 unfoldable pub first : List ℕ → Field
 first [] = Refused BadField
 first (tag ∷ []) = Refused BadField
 first (tag ∷ high ∷ []) = Refused BadField
 first (tag ∷ high ∷ low ∷ rest) =
     let size = high * 256 + low in
-    let payload = take size rest in
-    cond (allowed tag size && leb size (length rest)) (cond (unicode tag payload) (Good (word tag payload) (head + size)) (Refused NotUnicode)) (Refused BadField)
+    cond (leb size (length rest)) (whole tag (take size rest)) (Refused BadField)

@@ -1,9 +1,12 @@
 // One field of a token file: its token word, and how many bytes it takes.
 ghost use mathlib.Core.Path.{_≡_};
-ghost use mathlib.Core.Bool.{true};
-ghost use Prim.Native.Nat.{_+_, _*_, _<_};
-ghost use lib.ListN.{length, drop};
-ghost use Rattle.fields.specs.Field.{head, coded, allowed, number, unicode, word, first};
+ghost use mathlib.Core.Bool.{true, cond};
+ghost use lib.Dec.{eqb};
+ghost use Prim.Native.Nat.{_+_, _*_};
+ghost use lib.ListN.{length};
+ghost use Rattle.grammar.specs.Words.{Char, class};
+ghost use Rattle.fields.specs.Field.{head, BadField, coded, text, number, whole, first};
+ghost use Rattle.fields.specs.declared.Field.the-variants.{Good, Refused};
 
 // The classes, which are the fields' tags.
 const INVALID: u8 = 0;
@@ -59,20 +62,6 @@ fn is_coded(tag: u8) -> bool
     tag == OPERATOR || tag == KEYWORD
 }
 
-// Whether a payload of so many bytes goes with a tag.
-fn is_allowed(tag: u8, size: usize) -> bool
-    ensures { λ r. ⌜ r ≡ allowed tag size ⌝ }
-{
-    match tag {
-        OPERATOR | KEYWORD => size == CODE,
-        INTEGER | FLOAT => size == NUMBER,
-        CHAR => size == SIGN,
-        STR | IDENTIFIER | UNKNOWN => true,
-        INVALID | EMPTY | EOF => size == 0,
-        _ => false,
-    }
-}
-
 // The number that two bytes give, the high one first.
 fn pair_of(high: u8, low: u8) -> usize
     ensures { λ r. ⌜ r ≡ high * 256 + low ⌝ }
@@ -80,19 +69,7 @@ fn pair_of(high: u8, low: u8) -> usize
     high as usize * 256 + low as usize
 }
 
-// The word of a field that begins a part: its class, and where it has one its code, the byte behind the head.
-fn word_of(tag: u8, part: &[u8]) -> u16
-    requires { ⌜ (coded tag ≡ true → head < length (now part)) ⌝ }
-    ensures { λ r. ⌜ r ≡ word tag (drop head (now (part .entry))) ⌝ }
-{
-    let class = tag as u16 * 256;
-    if is_coded(tag) {
-        return class + part[HEAD] as u16;
-    }
-    class
-}
-
-// The number of the payload of a Char, its high byte first.
+// The number of four bytes, the high one first.
 fn number_of(payload: &[u8]) -> u32
     requires { ⌜ length (now payload) ≡ 4 ⌝ }
     ensures { λ r. ⌜ r ≡ number 0 (now (payload .entry)) ⌝ }
@@ -102,15 +79,64 @@ fn number_of(payload: &[u8]) -> u32
     (high * 65536 + low) as u32
 }
 
-// Whether what a payload holds is Unicode, as far as its tag asks for that.
-fn is_unicode(tag: u8, payload: &[u8]) -> bool
-    requires { ⌜ allowed tag (length (now payload)) ≡ true ⌝ }
-    ensures { λ r. ⌜ r ≡ unicode tag (now (payload .entry)) ⌝ }
+// The field of an operator or a keyword.
+fn of_code(tag: u8, payload: &[u8]) -> Field
+    requires { ⌜ coded tag ≡ true ⌝ }
+    ensures { λ r. ⌜ r ≡ whole tag (now (payload .entry)) ⌝ }
 {
+    if payload.len() != CODE {
+        return Field::Refused(BAD_FIELD);
+    }
+    Field::Good(tag as u16 * 256 + payload[0] as u16, HEAD + CODE)
+}
+
+// The field of a Char.
+fn of_sign(payload: &[u8]) -> Field
+    ensures { λ r. ⌜ r ≡ whole (class Char) (now (payload .entry)) ⌝ }
+{
+    if payload.len() != SIGN {
+        return Field::Refused(BAD_FIELD);
+    }
+    if !unicode::is_scalar(number_of(payload)) {
+        return Field::Refused(NOT_UNICODE);
+    }
+    Field::Good(CHAR as u16 * 256, HEAD + SIGN)
+}
+
+// The field of a tag whose payload is text.
+fn of_text(tag: u8, payload: &[u8]) -> Field
+    requires { ⌜ text tag ≡ true ⌝ }
+    ensures { λ r. ⌜ r ≡ whole tag (now (payload .entry)) ⌝ }
+{
+    if !unicode::is_well_formed(payload) {
+        return Field::Refused(NOT_UNICODE);
+    }
+    Field::Good(tag as u16 * 256, HEAD + payload.len())
+}
+
+// The field of a tag whose payload has just so many bytes, of which nothing is asked.
+fn of_length(tag: u8, payload: &[u8], size: usize) -> Field
+    ensures { λ r. ⌜ r ≡ cond (eqb (length (now (payload .entry))) size) (Good (tag * 256) (head + size)) (Refused BadField) ⌝ }
+{
+    if payload.len() != size {
+        return Field::Refused(BAD_FIELD);
+    }
+    Field::Good(tag as u16 * 256, HEAD + size)
+}
+
+// The field of a tag and its payload. Codes come first, as most fields have one.
+fn of_payload(tag: u8, payload: &[u8]) -> Field
+    ensures { λ r. ⌜ r ≡ whole tag (now (payload .entry)) ⌝ }
+{
+    if is_coded(tag) {
+        return of_code(tag, payload);
+    }
     match tag {
-        CHAR => unicode::is_scalar(number_of(payload)),
-        STR | IDENTIFIER | UNKNOWN => unicode::is_well_formed(payload),
-        _ => true,
+        INTEGER | FLOAT => of_length(tag, payload, NUMBER),
+        CHAR => of_sign(payload),
+        STR | IDENTIFIER | UNKNOWN => of_text(tag, payload),
+        INVALID | EMPTY | EOF => of_length(tag, payload, 0),
+        _ => Field::Refused(BAD_FIELD),
     }
 }
 
@@ -121,16 +147,9 @@ pub fn first_field(part: &[u8]) -> Field
     if part.len() < HEAD {
         return Field::Refused(BAD_FIELD);
     }
-    let tag = part[0];
     let size = pair_of(part[1], part[2]);
-    if !is_allowed(tag, size) {
-        return Field::Refused(BAD_FIELD);
-    }
     if part.len() - HEAD < size {
         return Field::Refused(BAD_FIELD);
     }
-    if !is_unicode(tag, &part[HEAD..HEAD + size]) {
-        return Field::Refused(NOT_UNICODE);
-    }
-    Field::Good(word_of(tag, part), HEAD + size)
+    of_payload(part[0], &part[HEAD..HEAD + size])
 }

@@ -8,7 +8,8 @@ use Rattle.fields.specs.declared.Field.{Field}
 use Rattle.fields.specs.declared.Field.the-variants.{Good, Refused}
 use Rattle.fields.specs.Field.{first}
 use Rattle.files.specs.File.{fields}
-use Rattle.files.proofs.Pass.{taken, none-left, good-next, bad-next}
+use Rattle.files.proofs.Good.{taken}
+use Rattle.files.proofs.Pass.{none-left, good-next, bad-next}
 
 -- two bounds that are no less than the number of the bytes
 pub same-fields : (b b′ number : ℕ) (bytes : List ℕ) → length bytes ≤ b → length bytes ≤ b′ → fields b number bytes ≡ fields b′ number bytes

@@ -1,18 +1,19 @@
 -- What a file can give: words that the buffer has room for, or refusal 6 or 3 at place 0, or 5 or 33 at the number of a field.
-use mathlib.Core.Path.{_≡_, refl, subst}
-use mathlib.Core.Bool.{Bool, true, false, cond, _&&_}
+use mathlib.Core.Path.{_≡_, refl}
+use mathlib.Core.Bool.{Bool, true, false, cond}
 use mathlib.Core.List.{List, [], _∷_}
-use Prim.Native.Nat.{ℕ, zero, suc, _+_, _*_, _≤_}
+use Prim.Native.Nat.{ℕ, zero, suc, _≤_}
 use native.Mathlib.Omega.{arith}
 use borrow.Author.Tests.{leb-true}
 use lib.Dec.{leb}
-use lib.ListN.{length, take}
+use lib.ListN.{length}
 use Rattle.fields.specs.declared.Field.{Field}
 use Rattle.fields.specs.declared.Field.the-variants as field
-use Rattle.fields.specs.Field.{head, BadField, NotUnicode, allowed, unicode, first}
+use Rattle.fields.specs.Field.{BadField, NotUnicode, first}
 use Rattle.files.specs.declared.Fields.the-variants.{Count, Refused}
 use Rattle.files.specs.File.{Content, read, refused, NoRoom, TooLong, most, before, fields}
 use Rattle.files.specs.Entry.{within, content, answer, answered}
+use Rattle.files.proofs.Good.{bad-field as bad}
 use Rattle.files.proofs.Pass.{good-next, bad-next}
 
 -- the refusals by number and place
@@ -31,24 +32,7 @@ as-refused no-room = refl
 
 -- a bad field's is one of two
 pub refusal : (part : List ℕ) {n : ℕ} → first part ≡ field.Refused n → (number : ℕ) → Refusal n number
-unfolding first
-refusal part {n} e number = by-part part e
-  where
-    bad : field.Refused BadField ≡ field.Refused n → Refusal n number
-    bad f = let same : BadField ≡ n = cc in subst (λ m. Refusal m number) same (bad-field number)
-
-    go : (t u : Bool) (w width : ℕ) → cond t (cond u (field.Good w width) (field.Refused NotUnicode)) (field.Refused BadField) ≡ field.Refused n → Refusal n number
-    go true true w width f = let z : _≡_ {A = ℕ} 0 1 = cc in absurd (omega arith)
-    go true false w width f = let same : NotUnicode ≡ n = cc in subst (λ m. Refusal m number) same (not-unicode number)
-    go false u w width f = bad f
-
-    by-part : (bytes : List ℕ) → first bytes ≡ field.Refused n → Refusal n number
-    by-part [] f = bad f
-    by-part (tag ∷ []) f = bad f
-    by-part (tag ∷ high ∷ []) f = bad f
-    by-part (tag ∷ high ∷ low ∷ rest) f =
-        let size = high * 256 + low in
-        go (allowed tag size && leb size (length rest)) (unicode tag (take size rest)) _ _ f
+refusal part e number = bad part (λ n. Refusal n number) (bad-field number) (not-unicode number) e
 
 -- that words meet a condition, and a refusal is one of them
 abbrev Among : (List ℕ → Type 0) → Content → Type 0

@@ -1,17 +1,15 @@
 -- One pass over a file's fields: the words behind it, the fields left, and the buffer so far.
 use mathlib.Core.Path.{_≡_, refl, _∙_}
-use mathlib.Core.Bool.{Bool, true, false, cond, _&&_, and-eq-true-iff}
 use mathlib.Core.List.{List, [], _∷_, _++_, append-assoc, append-nil}
-use Prim.Native.Nat.{ℕ, zero, suc, _+_, _*_, _-_, _≤_, _<_}
+use Prim.Native.Nat.{ℕ, zero, suc, _+_, _-_, _≤_, _<_}
 use native.Mathlib.Numerals.{add-one}
 use native.Mathlib.Omega.{arith}
-use borrow.Author.Tests.{leb-true}
-use lib.Dec.{leb}
-use lib.ListN.{length, take, drop, set, length-append, length-drop, drop-of-length-le}
+use lib.ListN.{length, drop, set, length-append, length-drop, drop-of-length-le}
 use lib.Seq.{drop-cons, drop-drop, append-snoc, set-at}
 use Rattle.fields.specs.declared.Field.the-variants.{Good, Refused}
-use Rattle.fields.specs.Field.{head, BadField, NotUnicode, allowed, unicode, first}
+use Rattle.fields.specs.Field.{first}
 use Rattle.files.specs.File.{Content, read, refused, before, fields}
+use Rattle.files.proofs.Good.{taken}
 
 -- words, and then those that follow; a refusal stays
 unfoldable pub join : List ℕ → Content → Content
@@ -27,34 +25,6 @@ join-more : (done : List ℕ) (w : ℕ) (c : Content) → join done (before w c)
 unfolding join before
 join-more done w (read words) = rw append-assoc
 join-more done w (refused number place) = refl
-
--- no field is both
-pub never : {n w width : ℕ} → Refused n ≡ Good w width → ⊥
-never e = let z : _≡_ {A = ℕ} 0 1 = cc in omega arith
-
--- a good field takes some bytes, and no more than there are
-pub record Taken (part : List ℕ) (width : ℕ) : Type 0 where
-  pub some : 0 < width
-  pub held : width ≤ length part
-
-pub taken : (part : List ℕ) {w width : ℕ} → first part ≡ Good w width → Taken part width
-unfolding first
-taken [] e = absurd (never e)
-taken (tag ∷ []) e = absurd (never e)
-taken (tag ∷ high ∷ []) e = absurd (never e)
-taken (tag ∷ high ∷ low ∷ rest) {w} {width} e = go (allowed tag size && leb size (length rest)) refl (unicode tag (take size rest)) _ e
-  where
-    size : ℕ
-    size = high * 256 + low
-
-    go : (t : Bool) → allowed tag size && leb size (length rest) ≡ t → (u : Bool) (x : ℕ)
-        → cond t (cond u (Good x (head + size)) (Refused NotUnicode)) (Refused BadField) ≡ Good w width → Taken (tag ∷ high ∷ low ∷ rest) width
-    go true t true x f =
-        let all : head + size ≡ width = cc in
-        let fits = leb-true size (length rest) (and-eq-true-iff (allowed tag size) (leb size (length rest)) .0 t .1) in
-        record { some = omega arith; held = omega arith }
-    go true t false x f = absurd (never f)
-    go false t u x f = absurd (never f)
 
 -- without bytes there are no fields
 pub none-left : (bound number : ℕ) → fields bound number [] ≡ read []

@@ -1,46 +1,24 @@
 -- A file that is accepted holds Unicode in every field, and its words are those of its fields.
-use mathlib.Core.Path.{_≡_, refl, sym, subst, _∙_}
-use mathlib.Core.Bool.{Bool, true, false, cond, _&&_, and-eq-true-iff}
+use mathlib.Core.Path.{_≡_, refl, sym, _∙_}
+use mathlib.Core.Bool.{Bool, true, false, cond}
 use mathlib.Core.List.{List, [], _∷_, _++_}
-use Prim.Native.Nat.{ℕ, zero, suc, _+_, _*_, _≤_}
+use Prim.Native.Nat.{ℕ, zero, suc, _≤_}
 use native.Mathlib.Omega.{arith}
-use borrow.Author.Tests.{leb-true}
 use lib.Dec.{leb}
-use lib.ListN.{length, take, drop, length-drop, take-append-drop}
-use lib.Seq.{drop-drop, length-take-le}
+use lib.ListN.{length, drop, length-drop}
 use Rattle.fields.specs.declared.Field.{Field}
 use Rattle.fields.specs.declared.Field.the-variants as field
-use Rattle.fields.specs.Field.{head, BadField, NotUnicode, allowed, unicode, word, first}
+use Rattle.fields.specs.Field.{first}
 use Rattle.files.specs.File.{Content, read, refused, NoRoom, TooLong, most, before, fields}
 use Rattle.files.specs.Entry.{within, content}
 use Rattle.files.specs.Claims.{Holds, none, field, Unicodes, UnicodePayloads}
-use Rattle.files.proofs.Pass.{never, good-next, bad-next, none-left, taken}
+use Rattle.files.proofs.Good.{GoodField, good-field, taken, behind}
+use Rattle.files.proofs.Pass.{good-next, bad-next, none-left}
 use Rattle.files.proofs.Outcomes.{accepted}
 
 -- a good field holds Unicode, and the file goes on behind it
-good-field : (part : List ℕ) {w width : ℕ} {words : List ℕ} → first part ≡ field.Good w width → Holds (drop width part) words → Holds part (w ∷ words)
-unfolding first
-good-field [] e k = absurd (never e)
-good-field (tag ∷ []) e k = absurd (never e)
-good-field (tag ∷ high ∷ []) e k = absurd (never e)
-good-field (tag ∷ high ∷ low ∷ rest) {w} {width} {words} e k =
-    go (allowed tag size && leb size (length rest)) refl (unicode tag (take size rest)) refl e
-  where
-    size : ℕ
-    size = high * 256 + low
-
-    go : (t : Bool) → allowed tag size && leb size (length rest) ≡ t → (u : Bool) → unicode tag (take size rest) ≡ u
-        → cond t (cond u (field.Good (word tag (take size rest)) (head + size)) (field.Refused NotUnicode)) (field.Refused BadField) ≡ field.Good w width
-        → Holds (tag ∷ high ∷ low ∷ rest) (w ∷ words)
-    go true t true u f =
-        let all : width ≡ head + size = cc in
-        let same : w ≡ word tag (take size rest) = cc in
-        let fits = leb-true size (length rest) (and-eq-true-iff (allowed tag size) (leb size (length rest)) .0 t .1) in
-        let behind : Holds (drop size rest) words = rw (all, ← drop-drop size head (tag ∷ high ∷ low ∷ rest)) at k in
-        subst (λ bs. Holds (tag ∷ high ∷ low ∷ bs) (w ∷ words)) (take-append-drop size rest)
-        (rw same (field tag high low (take size rest) (drop size rest) words (length-take-le size rest fits) u behind))
-    go true t false u f = absurd (never f)
-    go false t u v f = absurd (never f)
+one-more : {part words : List ℕ} {w width : ℕ} → GoodField part w width → Holds (drop width part) words → Holds part (w ∷ words)
+one-more g k = rw (g .split, g .its-word) (field (g .tag) (g .high) (g .low) (g .payload) (g .rest) _ (g .long) (g .text) (rw (behind g) at k))
 
 -- words behind a first one
 before-read : (w : ℕ) (c : Content) {words : List ℕ} → before w c ≡ read words → (ws : List ℕ) × (c ≡ read ws) × (words ≡ w ∷ ws)
@@ -66,7 +44,7 @@ all-fields (suc bound) number (b ∷ bytes) words h e = go (first (b ∷ bytes))
     go (field.Good w width) f rec =
         let some = taken (b ∷ bytes) f .some in
         let r = before-read w _ (sym (good-next bound number (b ∷ bytes) (omega arith) f) ∙ e) in
-        rw (r .2) (good-field (b ∷ bytes) f (rec (drop width (b ∷ bytes)) (r .0) (simp length-drop (omega arith)) (r .1)))
+        rw (r .2) (one-more (good-field (b ∷ bytes) f) (rec (drop width (b ∷ bytes)) (r .0) (simp length-drop (omega arith)) (r .1)))
     go (field.Refused n) f rec =
         let r : refused n number ≡ read words = sym (bad-next bound number (b ∷ bytes) (omega arith) f) ∙ e in
         let z : _≡_ {A = ℕ} 0 1 = cc in

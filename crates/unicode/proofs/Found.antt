@@ -9,7 +9,7 @@ use borrow.Author.Tests.{leb-true}
 use lib.Dec.{leb}
 use lib.ListN.{length}
 use Rattle.unicode.specs.Unicode.{Range, _to_, scalar, tail, table, begins, first, encode}
-use Rattle.unicode.proofs.Leads.{row-1, row-2, row-3, row-4, row-5, row-6, row-7, row-8, row-9, no-row, no-row-behind}
+use Rattle.unicode.proofs.Leads.{row-1, row-2, row-3, row-4, row-5, row-6, row-7, row-8, row-9, no-row, no-row-behind, no-bytes}
 use Rattle.unicode.proofs.Values.{low-scalar, high-scalar, value-2, value-3, value-4, encode-1, encode-2, encode-3, encode-4}
 
 -- bytes that begin with a scalar value's, and what is behind
@@ -98,13 +98,8 @@ pub counted : (t : Bool) (k n : ℕ) → cond t k 0 ≡ suc n → (t ≡ true) �
 counted true k n e = (refl, e)
 counted false k n e = absurd (omega arith)
 
--- no bytes, no sequence
-pub nothing : first table [] ≡ 0
-unfolding first table begins
-nothing = refl
-
 pub found : (bytes : List ℕ) (n : ℕ) → first table bytes ≡ suc n → Sequence bytes (suc n)
-found [] n e = absurd (omega (arith, nothing))
+found [] n e = absurd (omega (arith, no-bytes))
 found (b ∷ bytes) n e = at-1 (decLt b 0x80)
   where
     got : (t : Bool) (k : ℕ) → first table (b ∷ bytes) ≡ cond t k 0 → (t ≡ true → Sequence (b ∷ bytes) k) → Sequence (b ∷ bytes) (suc n)

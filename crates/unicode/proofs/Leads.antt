@@ -20,6 +20,11 @@ above n [] = true
 above n ([] ∷ rows) = false
 above n ((low to high ∷ rs) ∷ rows) = ltb n low && above n rows
 
+-- no bytes, no sequence
+pub no-bytes : first table [] ≡ 0
+unfolding first table begins
+no-bytes = refl
+
 module _ (b : ℕ) (bytes : List ℕ) where
   -- a byte in the first range of a row, behind it, and before it
   pub inside : (low high : ℕ) (rs : List Range) → low ≤ b → b ≤ high → begins (low to high ∷ rs) (b ∷ bytes) ≡ begins rs bytes

@@ -2,6 +2,7 @@
 ghost use mathlib.Core.Path.{_≡_};
 ghost use mathlib.Core.List.{[], _∷_};
 ghost use mathlib.Core.Bool.{cond};
+ghost use Prim.Native.Nat.{_≤_, _<_};
 ghost use lib.ListN.{drop};
 ghost use Rattle.unicode.specs.Unicode.{scalar, _to_, tail, begins, first, table, well-formed};
 
@@ -37,6 +38,16 @@ fn has(part: &[u8], at: usize, low: u8, high: u8) -> bool
     b <= high
 }
 
+// 2 where a second byte follows the first; 0 otherwise.
+fn two(part: &[u8]) -> usize
+    ensures { λ r. ⌜ r ≡ cond (begins (tail ∷ []) (drop 1 (now (part .entry)))) 2 0 ⌝ }
+{
+    if has(part, 1, LOW, HIGH) {
+        return 2;
+    }
+    0
+}
+
 // 3 where a second byte in a range and a third follow the first; 0 otherwise.
 fn three(part: &[u8], low: u8, high: u8) -> usize
     ensures { λ r. ⌜ r ≡ cond (begins (low to high ∷ tail ∷ []) (drop 1 (now (part .entry)))) 3 0 ⌝ }
@@ -61,6 +72,34 @@ fn four(part: &[u8], low: u8, high: u8) -> usize
     0
 }
 
+// The width of a sequence that a byte from E0 to EF leads.
+fn led_by_e(part: &[u8], lead: u8) -> usize
+    requires { ⌜ (0xE0 ≤ lead) × (lead < 0xF0) ⌝ }
+    ensures { λ r. ⌜ r ≡ first table (lead ∷ drop 1 (now (part .entry))) ⌝ }
+{
+    if lead == 0xE0 {
+        return three(part, 0xA0, HIGH);
+    }
+    if lead == 0xED {
+        return three(part, LOW, 0x9F);
+    }
+    three(part, LOW, HIGH)
+}
+
+// The width of a sequence that a byte from F0 to F4 leads.
+fn led_by_f(part: &[u8], lead: u8) -> usize
+    requires { ⌜ (0xF0 ≤ lead) × (lead < 0xF5) ⌝ }
+    ensures { λ r. ⌜ r ≡ first table (lead ∷ drop 1 (now (part .entry))) ⌝ }
+{
+    if lead == 0xF0 {
+        return four(part, 0x90, HIGH);
+    }
+    if lead == 0xF4 {
+        return four(part, LOW, 0x8F);
+    }
+    four(part, LOW, HIGH)
+}
+
 // How many bytes the first sequence of a part takes, 0 where no row of the table fits.
 fn width(part: &[u8]) -> usize
     ensures { λ r. ⌜ r ≡ first table (now (part .entry)) ⌝ }
@@ -72,16 +111,19 @@ fn width(part: &[u8]) -> usize
     if lead < LOW {
         return 1;
     }
-    match lead {
-        0xC2..=0xDF => { if has(part, 1, LOW, HIGH) { 2 } else { 0 } }
-        0xE0 => three(part, 0xA0, HIGH),
-        0xED => three(part, LOW, 0x9F),
-        0xE1..=0xEF => three(part, LOW, HIGH),
-        0xF0 => four(part, 0x90, HIGH),
-        0xF4 => four(part, LOW, 0x8F),
-        0xF1..=0xF3 => four(part, LOW, HIGH),
-        _ => 0,
+    if lead < 0xC2 {
+        return 0;
     }
+    if lead < 0xE0 {
+        return two(part);
+    }
+    if lead < 0xF0 {
+        return led_by_e(part, lead);
+    }
+    if lead < 0xF5 {
+        return led_by_f(part, lead);
+    }
+    0
 }
 
 // Whether bytes are well-formed UTF-8.
