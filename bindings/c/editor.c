@@ -24,7 +24,7 @@ enum {
 };
 
 static uint8_t file[BYTES];
-static struct shigthapul_bytes payloads[TOKENS];
+static struct shigthapul_field fields[TOKENS];
 static uint16_t tokens[TOKENS], words[WRITTEN];
 static uint32_t pool[POOL], places[WRITTEN];
 
@@ -33,18 +33,8 @@ struct script {
     uint32_t root, rows;
 };
 
-/* Finds the payloads of a file that was accepted. */
-static void find_payloads(size_t count) {
-    const uint8_t *field = file;
-    for (size_t place = 0; place < count; place++) {
-        payloads[place].start = field + 3;
-        payloads[place].length = 256 * (size_t)field[1] + field[2];
-        field = payloads[place].start + payloads[place].length;
-    }
-}
-
 static struct shigthapul_bytes payload_at(size_t place) {
-    return payloads[place];
+    return fields[place].payload;
 }
 
 /* Reads the file's fields, and the script that they are. */
@@ -52,11 +42,12 @@ static struct shigthapul_answer read_script(bool strict) {
     struct shigthapul_answer answer;
     size_t length = fread(file, 1, BYTES, stdin);
     shigthapul_read_file(file, length, tokens, TOKENS, answer.words, SHIGTHAPUL_ANSWER_WORDS);
+    struct shigthapul_bytes rest = {file, length};
     size_t count = shigthapul_count(&answer);
-    if (shigthapul_is_accepted(&answer)) {
-        find_payloads(count);
+    for (size_t place = 0; place < count; place++)
+        shigthapul_next_field(&rest, &fields[place]);
+    if (shigthapul_is_accepted(&answer))
         shigthapul_whole_script(tokens, count, pool, POOL, strict, answer.words, SHIGTHAPUL_ANSWER_WORDS);
-    }
     return answer;
 }
 

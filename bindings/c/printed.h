@@ -117,7 +117,7 @@ static inline void print_payload(unsigned token_class, struct shigthapul_bytes p
         print_float(number_of(payload));
         break;
     case SHIGTHAPUL_CLASS_CHAR:
-        printf("'\\u{%" PRIX64 "}'", number_of(payload));
+        printf("'\\u{%" PRIX32 "}'", shigthapul_char_of(payload));
         break;
     case SHIGTHAPUL_CLASS_STR:
         putchar('"');

@@ -67,7 +67,9 @@ void shigthapul_whole_script(const uint16_t *tokens, size_t tokens_len, uint32_t
                              uint64_t *answer, size_t answer_len);
 
 /* Reads a token file of at most 60,000 bytes into the front of `words`, and zeroes the rest; after a refusal every
-   word is 0. */
+   word is 0. A text (Str, Identifier, Unknown) that is not well-formed UTF-8, or a Char that is no Unicode scalar value,
+   is refused with SHIGTHAPUL_REFUSED_NOT_UNICODE at the number of its field. shigthapul_next_field, below, finds the
+   payloads. */
 void shigthapul_read_file(const uint8_t *bytes, size_t bytes_len, uint16_t *words, size_t words_len, uint64_t *answer,
                           size_t answer_len);
 
@@ -159,12 +161,52 @@ static inline bool shigthapul_has(const struct shigthapul_row *row, enum shigtha
     return row->kind == (uint32_t)kind && (row->mark & (uint32_t)flag) != 0;
 }
 
-/* Some bytes, and the text of a string after its fold. */
+/* Some bytes. */
 struct shigthapul_bytes {
     const uint8_t *start;
     size_t length;
 };
 
+/* A field of a token file: the class of its token, which is the field's first byte, and its payload. Before the payload
+   stand SHIGTHAPUL_FIELD_HEAD bytes. */
+struct shigthapul_field {
+    uint32_t token_class;
+    struct shigthapul_bytes payload;
+};
+
+enum { SHIGTHAPUL_FIELD_HEAD = 3 };
+
+/* Takes the first field off the front of `rest`; at first `rest` is the whole file. Where there is none, or where it is
+   cut short, the answer is false, and both stay as they were. It looks at no byte behind `rest`, whatever they hold.
+
+   If shigthapul_read_file has accepted the file, the fields come in the order of the token words, as many as them. Then
+   the payload of a Str, an Identifier or an Unknown is well-formed UTF-8, which is proved. It may hold bytes that are 0,
+   and no 0 ends it. */
+static inline bool shigthapul_next_field(struct shigthapul_bytes *rest, struct shigthapul_field *field) {
+    const uint8_t *head = rest->start;
+    if (rest->length < SHIGTHAPUL_FIELD_HEAD)
+        return false;
+    size_t length = 256 * (size_t)head[1] + head[2], left = rest->length - SHIGTHAPUL_FIELD_HEAD;
+    if (left < length)
+        return false;
+    field->token_class = head[0];
+    field->payload.start = head + SHIGTHAPUL_FIELD_HEAD;
+    field->payload.length = length;
+    rest->start = field->payload.start + length;
+    rest->length = left - length;
+    return true;
+}
+
+/* The character of a Char's payload, the high one of its four bytes first; UINT32_MAX, which is none, for a payload of
+   another length. If shigthapul_read_file has accepted the file, it is a Unicode scalar value, which is proved. */
+static inline uint32_t shigthapul_char_of(struct shigthapul_bytes payload) {
+    const uint8_t *bytes = payload.start;
+    if (payload.length != 4)
+        return UINT32_MAX;
+    return (uint32_t)bytes[0] << 24 | (uint32_t)bytes[1] << 16 | (uint32_t)bytes[2] << 8 | bytes[3];
+}
+
+/* The text of a string after its fold. That of well-formed UTF-8 is well-formed UTF-8, which is proved. */
 static inline struct shigthapul_bytes shigthapul_text_of(const uint8_t *payload, size_t payload_len,
                                                          const uint8_t *work, size_t work_len) {
     struct shigthapul_answer answer;

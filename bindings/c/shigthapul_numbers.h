@@ -48,6 +48,7 @@
     X(SHIGTHAPUL_REFUSED_CONTINUE_WITHOUT_SEMICOLON, 29, "continue: no ;") \
     X(SHIGTHAPUL_REFUSED_WRONG_SIGN, 30, "a call with arguments: no ); while, foreach, finally: no {") \
     X(SHIGTHAPUL_REFUSED_TOO_SHORT, 32, "no room for what is written") \
+    X(SHIGTHAPUL_REFUSED_NOT_UNICODE, 33, "the token file: a text or a Char that is not Unicode") \
     X(SHIGTHAPUL_REFUSED_NO_TREE, 38, "not a tree: the root, or a row that it reaches")
 SHIGTHAPUL_TABLE(refusal, SHIGTHAPUL_REFUSALS)
 

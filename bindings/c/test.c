@@ -99,6 +99,54 @@ static void test_file(void) {
     CHECK(words[0] == 0 && words[1] == 0 && words[2] == 0);
 }
 
+/* Fields whose payloads are Unicode, and their ends in the file. */
+static const uint8_t FIELDS[] = {4, 0, 2, 0xC3, 0xA9, 6, 0, 4, 0, 0x10, 0xFF, 0xFF, 7, 0, 0, 2, 0, 0};
+static const size_t ENDS[] = {5, 12, 15, 18};
+
+/* A Char and then a text that are not Unicode: the first bad field decides. */
+static void test_unicode(void) {
+    uint8_t file[LENGTH(FIELDS)];
+    uint16_t words[] = {9, 9, 9, 9, 9};
+    struct shigthapul_answer answer;
+    shigthapul_read_file(FIELDS, LENGTH(FIELDS), words, LENGTH(words), ANSWER(answer));
+    CHECK(shigthapul_count(&answer) == LENGTH(ENDS) && words[1] == SHIGTHAPUL_CLASS_CHAR << 8 && words[4] == 0);
+    memcpy(file, FIELDS, sizeof file);
+    file[9] = 0x11;
+    shigthapul_read_file(file, LENGTH(file), words, LENGTH(words), ANSWER(answer));
+    CHECK(shigthapul_refusal(&answer) == SHIGTHAPUL_REFUSED_NOT_UNICODE && shigthapul_place(&answer) == 1);
+    CHECK(words[0] == 0 && words[1] == 0 && words[2] == 0 && words[3] == 0 && words[4] == 0);
+    file[4] = 0xC3;
+    shigthapul_read_file(file, LENGTH(file), words, LENGTH(words), ANSWER(answer));
+    CHECK(shigthapul_refusal(&answer) == SHIGTHAPUL_REFUSED_NOT_UNICODE && shigthapul_place(&answer) == 0);
+}
+
+static void test_fields(void) {
+    struct shigthapul_bytes rest = {FIELDS, LENGTH(FIELDS)};
+    struct shigthapul_field field;
+    CHECK(shigthapul_next_field(&rest, &field) && field.token_class == SHIGTHAPUL_CLASS_STR);
+    CHECK(field.payload.start == FIELDS + 3 && field.payload.length == 2);
+    CHECK(shigthapul_char_of(field.payload) == UINT32_MAX);
+    CHECK(shigthapul_next_field(&rest, &field) && field.token_class == SHIGTHAPUL_CLASS_CHAR);
+    CHECK(shigthapul_char_of(field.payload) == 0x10FFFF);
+    CHECK(shigthapul_next_field(&rest, &field) && field.token_class == SHIGTHAPUL_CLASS_IDENTIFIER);
+    CHECK(field.payload.start == FIELDS + 15 && field.payload.length == 0);
+    CHECK(shigthapul_next_field(&rest, &field) && field.token_class == SHIGTHAPUL_CLASS_EOF);
+    CHECK(!shigthapul_next_field(&rest, &field) && field.token_class == SHIGTHAPUL_CLASS_EOF);
+    CHECK(rest.start == FIELDS + LENGTH(FIELDS) && rest.length == 0);
+}
+
+/* Of a file that is cut anywhere, the fields that are whole, and what is left behind them. */
+static void test_cut_fields(void) {
+    for (size_t length = 0; length < LENGTH(FIELDS); length++) {
+        struct shigthapul_bytes rest = {FIELDS, length};
+        struct shigthapul_field field;
+        size_t count = 0, end = 0;
+        for (; shigthapul_next_field(&rest, &field); count++)
+            end = ENDS[count];
+        CHECK(ENDS[count] > length && rest.start == FIELDS + end && rest.length == length - end);
+    }
+}
+
 static void test_text(void) {
     const uint8_t plain[] = {'a', '\\', 'b'}, paired[] = {'a', '\\', '\\', 'b'};
     uint8_t work[] = {'.', '.', '.', '.'};
@@ -161,6 +209,9 @@ int main(void) {
     test_statement();
     test_modes();
     test_file();
+    test_unicode();
+    test_fields();
+    test_cut_fields();
     test_text();
     test_tree();
     test_numbers();

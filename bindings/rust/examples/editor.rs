@@ -10,8 +10,8 @@
 //!
 //! The status is 0 where the script is accepted, 1 where it is refused, 2 where the command or its
 //! input can't be read.
-use shigthapul::{check, read_file, whole_script};
-use shigthapul::{Kind, Mode, Refusal, Row, Token, Tokens, ROW_WORDS, TOKEN_WORDS};
+use shigthapul::{check, whole_script};
+use shigthapul::{Field, Kind, Mode, Refusal, Row, Token, TokenFile, ROW_WORDS, TOKEN_WORDS};
 use std::io::{self, Read};
 use std::process::ExitCode;
 
@@ -36,9 +36,8 @@ fn main() -> ExitCode {
         return ExitCode::from(2);
     }
     match edited(&file, mode) {
-        Ok(tokens) => {
-            let payloads = payloads(&file);
-            println!("{}", tokens.text(|token, place| spelled(token, payloads[place])));
+        Ok(text) => {
+            println!("{}", text);
             ExitCode::SUCCESS
         }
         Err(refusal) => {
@@ -48,18 +47,20 @@ fn main() -> ExitCode {
     }
 }
 
-/// The tokens of a file's script after the changes.
-fn edited(file: &[u8], mode: Mode) -> Result<Tokens, Refusal> {
+/// The text of a file's script after the changes.
+fn edited(bytes: &[u8], mode: Mode) -> Result<String, Refusal> {
     let mut words = vec![0; TOKENS];
-    let tokens = read_file(file, &mut words)?;
-    let mut pool = vec![0; TOKEN_WORDS * tokens.len()];
-    let tree = whole_script(tokens, &mut pool, mode)?;
+    let file = TokenFile::read(bytes, &mut words)?;
+    let mut pool = vec![0; TOKEN_WORDS * file.words().len()];
+    let tree = whole_script(file.words(), &mut pool, mode)?;
     let (root, rows) = (tree.root().map_or(0, |root| root.reference()), tree.len());
     pool.truncate(ROW_WORDS * rows);
     let mut script = Script { pool, root };
     script.swap_operands();
     script.add_return();
-    check(&script.pool, script.root)?.to_tokens()
+    let tokens = check(&script.pool, script.root)?.to_tokens()?;
+    let fields: Vec<Field> = file.fields().collect();
+    Ok(tokens.text(|_, place| spelled(fields[place])))
 }
 
 /// A script in a pool of just its rows, which can be changed.
@@ -119,26 +120,16 @@ impl Script {
     }
 }
 
-/// The payloads of a file that was accepted, by the places of their tokens.
-fn payloads(mut file: &[u8]) -> Vec<&[u8]> {
-    let mut found = vec![];
-    while let [_, high, low, rest @ ..] = file {
-        let (payload, behind) = rest.split_at(256 * usize::from(*high) + usize::from(*low));
-        found.push(payload);
-        file = behind;
-    }
-    found
-}
-
-/// The text of a token by its payload, in the form of `tools/tokens`.
-fn spelled(token: Token, payload: &[u8]) -> String {
-    let number = payload.iter().fold(0_u64, |number, &byte| number << 8 | u64::from(byte));
-    match token {
-        Token::Integer => (number as i64).to_string(),
-        Token::Float => float(f64::from_bits(number)),
-        Token::Char => format!("'\\u{{{:X}}}'", number),
-        Token::Str => format!("\"{}\"", escaped(payload, b"\\\"")),
-        _ => escaped(payload, b"\\"),
+/// The text of a field, in the form of `tools/tokens`.
+fn spelled(field: Field) -> String {
+    let bytes = field.payload().iter();
+    let number = bytes.fold(0_u64, |number, &byte| number << 8 | u64::from(byte));
+    match (field.token(), field.text(), field.character()) {
+        (Some(Token::Str), Some(text), _) => format!("\"{}\"", escaped(text, "\\\"")),
+        (_, Some(text), _) => escaped(text, "\\"),
+        (_, _, Some(character)) => format!("'\\u{{{:X}}}'", u32::from(character)),
+        (Some(Token::Float), ..) => float(f64::from_bits(number)),
+        _ => (number as i64).to_string(),
     }
 }
 
@@ -151,12 +142,12 @@ fn float(value: f64) -> String {
     }
 }
 
-/// Bytes as text, those that are no plain letters or signs escaped, and some signs too.
-fn escaped(bytes: &[u8], signs: &[u8]) -> String {
-    let escape = |&byte: &u8| match byte {
-        _ if signs.contains(&byte) => format!("\\{}", byte as char),
-        b' '..=b'~' => (byte as char).to_string(),
+/// A text with the bytes that are no plain letters or signs escaped, and some signs too.
+fn escaped(text: &str, signs: &str) -> String {
+    let escape = |byte: u8| match byte as char {
+        sign if signs.contains(sign) => format!("\\{}", sign),
+        plain @ ' '..='~' => plain.to_string(),
         _ => format!("\\x{:02X}", byte),
     };
-    bytes.iter().map(escape).collect()
+    text.bytes().map(escape).collect()
 }

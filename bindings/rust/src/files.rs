@@ -5,7 +5,8 @@ use crate::{raw, Refusal};
 /// Reads a token file into the front of a buffer of words, and hands back the words of its fields.
 ///
 /// A field is a tag (the token's class), a length of two bytes, high byte first, and a payload.
-/// Words behind the last field become zero; after a refusal all of them are.
+/// Words behind the last field become zero; after a refusal all of them are. A
+/// [`TokenFile`](crate::TokenFile) is read in the same way, and has the payloads too.
 ///
 /// ```
 /// use shigthapul::{read_file, Reason};

@@ -5,7 +5,8 @@
 //! words that the caller lends, [`ROW_WORDS`] to a row; reading allocates nothing. After a refusal every
 //! word of the pool is zero. No input makes these functions panic. A [`Mode`] says by which rules is
 //! read: the original's, or strict ones. A tree, also one that was changed, goes back to tokens by
-//! [`Tree::to_tokens`], [`check()`] and [`write()`].
+//! [`Tree::to_tokens`], [`check()`] and [`write()`]. A [`TokenFile`] has the tokens with their names
+//! and texts.
 //!
 //! ```
 //! use shigthapul::{whole_script, Infix, Kind, Mode, Symbol, Token, TOKEN_WORDS};
@@ -48,6 +49,7 @@ mod text;
 mod token;
 mod tokens;
 mod tree;
+mod unicode;
 mod walk;
 mod writing;
 
@@ -61,6 +63,7 @@ pub use text::{fold, text};
 pub use token::{Keyword, Symbol, Token};
 pub use tokens::{script_text, Tokens};
 pub use tree::{Node, Row, Tree, GROUPED};
+pub use unicode::{fold_str, Field, Fields, TokenFile};
 pub use walk::{List, Walk};
 pub use writing::{check, check_small, write, write_small, Checked};
 

@@ -1,4 +1,4 @@
-//! The ten C functions as they are, over slices, and the only unsafe code of this crate.
+//! The ten C functions as they are, over slices; with `unicode.rs` the only unsafe code of this crate.
 //!
 //! Each writes the four words of its answer to the front of `answer`, as far as that goes; words
 //! behind the fourth stay as they were. The functions of the crate's root are built on these.

@@ -44,6 +44,8 @@ table! {
         WrongSign = 30, "a call with arguments: no ); while, foreach, finally: no {";
         /// A buffer of token words or of places is too short for a tree.
         TooShort = 32, "no room for what is written";
+        /// [`Field`](crate::Field) says which payloads are text.
+        NotUnicode = 33, "the token file: a text or a Char that is not Unicode";
         /// [`check`](crate::check) says what a tree is.
         NoTree = 38, "not a tree: the root, or a row that it reaches";
     }
@@ -51,8 +53,8 @@ table! {
 
 /// A refusal: its reason, and its place.
 ///
-/// The place is that of a token, from 0; for [`Reason::BadField`] it is that of a field, and for
-/// [`Reason::NoTree`] the reference of a row.
+/// The place is that of a token, from 0; for [`Reason::BadField`] and [`Reason::NotUnicode`] it is
+/// that of a field, and for [`Reason::NoTree`] the reference of a row.
 ///
 /// ```
 /// use shigthapul::{one_expression, Mode, Reason, Refusal, Symbol, Token, ROW_WORDS};

@@ -1,5 +1,5 @@
 //! The text of strings.
-use shigthapul::{fold, text, Reason, Refusal};
+use shigthapul::{fold, fold_str, text, Reason, Refusal};
 
 /// What the work buffer has in it before it is lent.
 const DIRT: u8 = b'.';
@@ -25,6 +25,20 @@ fn payloads_and_their_texts() {
         assert_eq!(work[..written], expected[..written]);
         assert!(work[written..].iter().all(|&byte| byte == DIRT));
     }
+}
+
+#[test]
+fn texts_stay_texts() {
+    let cases =
+        [("", ""), ("é", "é"), (r"é\ü", r"é\ü"), (r"\\é\\\", r"\é\\"), ("\0\\\\𝄞", "\0\\𝄞")];
+    for (payload, expected) in cases {
+        // Bytes that are no text, as a buffer may have them from before.
+        let mut work = [0xFF; 12];
+        assert_eq!(fold_str(payload, &mut work), Ok(expected));
+    }
+    let refused = Err(Refusal { reason: Reason::NoRoom, place: 0 });
+    assert_eq!(fold_str(r"\\é", &mut [0xFF; 2]), refused);
+    assert_eq!(fold_str(r"\\é", &mut [0xFF; 3]), Ok(r"\é"));
 }
 
 #[test]

@@ -142,6 +142,6 @@ fn numbers_and_members() {
         assert_eq!(Kind::from_number(kind.number()), Some(*kind));
     }
     assert_eq!([0, 20, 31, 47].map(Kind::from_number), [None; 4]);
-    assert_eq!([0, 7, 9, 31, 33, 37, 39].map(Reason::from_number), [None; 7]);
+    assert_eq!([0, 7, 9, 31, 34, 37, 39].map(Reason::from_number), [None; 7]);
     assert_eq!(format!("{:>7}", Kind::Name), "   name");
 }

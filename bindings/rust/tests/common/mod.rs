@@ -1,4 +1,4 @@
-//! Helpers of the tests: token words from text, and answers as text.
+//! Helpers of the tests: token words from text, fields of token files, and answers as text.
 #![allow(dead_code)] // each test file uses some of them
 use shigthapul::{one_expression, one_statement, whole_script};
 use shigthapul::{Keyword, Mode, Node, Refusal, Symbol, Token, Tree, ROW_WORDS};
@@ -23,6 +23,12 @@ pub fn words(text: &str) -> Vec<u16> {
     let end = if text.ends_with("_NOEOF") { "" } else { "_EOF" };
     let items = text.split_whitespace().filter(|&item| item != "_NOEOF");
     items.chain(end.split_whitespace()).map(word).collect()
+}
+
+/// A field of a token file: the token of a class, and its payload.
+pub fn field(token: Token, payload: &[u8]) -> Vec<u8> {
+    let length = u16::try_from(payload.len()).expect("a length in two bytes").to_be_bytes();
+    [&[(token.word() >> 8) as u8], &length[..], payload].concat()
 }
 
 /// The word of one item.
