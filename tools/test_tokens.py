@@ -106,10 +106,40 @@ class Files(unittest.TestCase):
 
     def field(self, source):
         kind = source.randrange(11)
-        length = tokens.LENGTHS.get(kind, source.randrange(6))
-        ascii_only = source.random() < 0.5
-        payload = bytes(source.randrange(128 if ascii_only else 256) for _ in range(length))
-        return struct.pack(">BH", kind, length) + payload
+        length = tokens.LENGTHS.get(kind)
+        payload = self.text(source) if length is None else source.randbytes(length)
+        return struct.pack(">BH", kind, len(payload)) + payload
+
+    def text(self, source):
+        """Letters, any characters, or bytes that are mostly no Unicode."""
+        count = source.randrange(6)
+        if source.random() < 0.3:
+            return source.randbytes(count)
+        limit = source.choice([0x80, 0x800, 0xD800])
+        return "".join(chr(source.randrange(limit)) for _ in range(count)).encode()
+
+    def test_what_is_no_unicode_comes_back(self):
+        fields = [
+            ("\"a\\xFF\"", b"\x04\x00\x02a\xFF"),
+            ("\"\\xE2\\x82\"", b"\x04\x00\x02\xE2\x82"),
+            ("#0700:ff", b"\x07\x00\x01\xFF"),
+            ("#0A00:eda080", b"\x0A\x00\x03\xED\xA0\x80"),
+            ("'\\u{D800}'", b"\x06\x00\x04\x00\x00\xD8\x00"),
+            ("'\\u{DFFF}'", b"\x06\x00\x04\x00\x00\xDF\xFF"),
+            ("'\\u{110000}'", b"\x06\x00\x04\x00\x11\x00\x00"),
+            ("'\\u{FFFFFFFF}'", b"\x06\x00\x04\xFF\xFF\xFF\xFF"),
+        ]
+        for text, field in fields:
+            with self.subTest(text):
+                data = field + b"\x02\x00\x00"
+                self.assertEqual(tokens.to_file(text), data)
+                self.assertEqual(tokens.unparse(tokens.read_file(data)), text)
+
+    def test_texts_of_unicode(self):
+        written = tokens.to_file("\"\u00b5m \U0001f600\" '\u00e9' '\U0010ffff' #0700:C2B5")
+        plain = "\"\\xC2\\xB5m \\xF0\\x9F\\x98\\x80\" '\\u{E9}' '\\u{10FFFF}' #0700:c2b5"
+        self.assertEqual(tokens.unparse(tokens.read_file(written)), plain)
+        self.assertEqual(tokens.to_file(plain), written)
 
     def test_names_that_mean_something_else(self):
         for name in [b"if", b"_E", b"_NOEOF", b"1a", b"", b"a b", b"\xe9"]:
@@ -144,6 +174,11 @@ class Commands(unittest.TestCase):
         text = b"if ( a . b ) { \"s\\n\" ; } _E _NOEOF\n"
         code, data, _ = run("to-file", given=text)
         self.assertEqual((code, run("from-file", given=data)), (0, (0, text, b"")))
+
+    def test_what_is_no_unicode(self):
+        code, data, _ = run("to-file", "#0700:FF \"\\xFF\" '\\u{D800}'")
+        self.assertEqual((code, data), (0, bytes.fromhex("070001FF 040001FF 0600040000D800 020000")))
+        self.assertEqual(run("from-file", given=data), (0, b"#0700:ff \"\\xFF\" '\\u{D800}'\n", b""))
 
     def test_places(self):
         listed = b"0 if\n1 a\n2 ==\n3 'c'\n4 _EOF\n"

@@ -1,4 +1,6 @@
 //! Token files by document 01: their fields, and what the printing program writes to them.
+pub mod examples;
+
 use crate::batch::{Answer, Case};
 use crate::compare::{summary, words_of};
 use crate::model::{Entry, ROW};
@@ -9,15 +11,24 @@ pub const MOST_BYTES: usize = 60_000;
 pub const MOST_ROWS: usize = 2_000;
 
 /// The bytes of a field in front of its payload.
-const HEAD: usize = 3;
+pub const HEAD: usize = 3;
+
+/// The refusals of a file.
+const BAD_FIELD: u32 = 5;
+const TOO_LONG: u32 = 6;
+const NOT_UNICODE: u32 = 33;
+
+/// The classes whose payload must be Unicode: that of characters, and those of texts.
+pub const CHARACTER: u16 = 6;
+pub const TEXTS: [u16; 3] = [4, 7, 10];
 
 /// The payload's length for a class; None where any is right.
 fn length_of(class: u16) -> Option<usize> {
     match class {
         words::OPERATOR | words::KEYWORD => Some(1),
         3 | 5 => Some(8),
-        6 => Some(4),
-        4 | 7 | 10 => None,
+        CHARACTER => Some(4),
+        text if TEXTS.contains(&text) => None,
         _ => Some(0),
     }
 }
@@ -25,19 +36,31 @@ fn length_of(class: u16) -> Option<usize> {
 /// The words of a file's fields; or the number and place of its refusal.
 pub fn fields(file: &[u8]) -> Result<Vec<u16>, (u32, u32)> {
     if file.len() > MOST_BYTES {
-        return Err((6, 0));
+        return Err((TOO_LONG, 0));
     }
     let (mut rest, mut found) = (file, vec![]);
     while !rest.is_empty() {
-        let (word, behind) = first_field(rest).ok_or((5, found.len() as u32))?;
+        let (word, behind) = first_field(rest).map_err(|number| (number, found.len() as u32))?;
         found.push(word);
         rest = behind;
     }
     Ok(found)
 }
 
-/// The first field's word and what follows the field; None if it is cut short or not a right one.
-fn first_field(file: &[u8]) -> Option<(u16, &[u8])> {
+/// The first field's word and what follows the field; or the number of its refusal.
+fn first_field(file: &[u8]) -> Result<(u16, &[u8]), u32> {
+    let (class, payload, behind) = parts(file).ok_or(BAD_FIELD)?;
+    if !is_unicode(class, payload) {
+        return Err(NOT_UNICODE);
+    }
+    let coded = class == words::OPERATOR || class == words::KEYWORD;
+    let code = if coded { u16::from(payload[0]) } else { 0 };
+    Ok((class << 8 | code, behind))
+}
+
+/// The first field's class and payload, and what follows the field; None if it is cut short or not
+/// a right one.
+fn parts(file: &[u8]) -> Option<(u16, &[u8], &[u8])> {
     let head = file.get(..HEAD)?;
     let class = u16::from(head[0]);
     let length = usize::from(u16::from_be_bytes([head[1], head[2]]));
@@ -45,20 +68,35 @@ fn first_field(file: &[u8]) -> Option<(u16, &[u8])> {
         return None;
     }
     let payload = file.get(HEAD..HEAD + length)?;
-    let coded = class == words::OPERATOR || class == words::KEYWORD;
-    let code = if coded { u16::from(payload[0]) } else { 0 };
-    Some((class << 8 | code, &file[HEAD + length..]))
+    Some((class, payload, &file[HEAD + length..]))
+}
+
+/// Whether a payload is Unicode where its class asks for that, by Rust's own library.
+fn is_unicode(class: u16, payload: &[u8]) -> bool {
+    match class {
+        CHARACTER => char::from_u32(number(payload)).is_some(),
+        text if TEXTS.contains(&text) => std::str::from_utf8(payload).is_ok(),
+        _ => true,
+    }
+}
+
+/// The number that four bytes are, the high one first.
+fn number(payload: &[u8]) -> u32 {
+    payload.iter().fold(0, |number, &byte| number << 8 | u32::from(byte))
 }
 
 /// The field of a word, with a payload of `text` bytes where any length is right.
 pub fn field(word: u16, text: &[u8]) -> Vec<u8> {
     let class = words::class(word);
-    let code = [word as u8];
-    let payload = match length_of(class) {
-        Some(1) => &code[..],
-        Some(length) => &[0; 8][..length],
-        None => text,
-    };
+    match length_of(class) {
+        Some(1) => tagged(class, &[word as u8]),
+        Some(length) => tagged(class, &[0; 8][..length]),
+        None => tagged(class, text),
+    }
+}
+
+/// A field of a class with any payload.
+pub fn tagged(class: u16, payload: &[u8]) -> Vec<u8> {
     let length = (payload.len() as u16).to_be_bytes();
     [&[class as u8], &length[..], payload].concat()
 }
@@ -121,8 +159,25 @@ mod tests {
         assert_eq!(outline(&[2, 0, 0, 11, 0, 0]), "no 5 1\n");
         assert_eq!(outline(&[2, 0, 1, 0]), "no 5 0\n");
         assert_eq!(outline(&[8, 0, 1, 41, 2, 0, 0]), "no 1 0\n");
+        assert_eq!(outline(&[8, 0, 1, 41, 4, 0, 1, 0xFF]), "no 33 1\n");
+        assert_eq!(outline(&[4, 0, 1, 0xFF, 11, 0, 0]), "no 33 0\n");
+        assert_eq!(outline(&[4, 0, 2, 0xFF]), "no 5 0\n");
         assert_eq!(outline(&[11; MOST_BYTES + 1]), "no 6 0\n");
         assert_eq!(outline(&[11; MOST_BYTES]), "no 5 0\n");
+    }
+
+    #[test]
+    fn only_characters_and_texts_must_be_unicode() {
+        let with =
+            |class, payload: &[u8]| outline(&[tagged(class, payload), field(EOF, b"")].concat());
+        for class in TEXTS {
+            assert_eq!(with(class, &[0xC3]), "no 33 0\n");
+            assert!(!with(class, "\u{E9}\u{20AC}\u{1F600}".as_bytes()).starts_with("no 33"));
+        }
+        assert_eq!(with(CHARACTER, &[0, 0, 0xD8, 0]), "no 33 0\n");
+        assert!(with(CHARACTER, &[0, 0, 0xE0, 0]).starts_with("ok 3 3 1\n"));
+        assert!(with(3, &[0xFF; 8]).starts_with("ok 3 3 1\n"));
+        assert!(with(5, &[0xFF; 8]).starts_with("ok 3 3 1\n"));
     }
 
     #[test]

@@ -5,6 +5,7 @@ mod grammar;
 mod limits;
 mod loose;
 mod nesting;
+mod payloads;
 pub mod rng;
 pub mod token_files;
 

@@ -39,6 +39,7 @@ const USAGE: &str = "commands:
       differ, and prints on standard error how many answers both give)
   outline                    what the printing program writes to the token file on standard input
   files FOLDER [--seed N] [--count N]   random token files NAME.tok, and what it writes to each: NAME.out
+  files FOLDER --examples    the worked examples of token files, in the same way
   answer                     the model's answers to the batch on standard input
   compare ANSWERS            compares a file of answers with the model's, batch on standard input
   selfcheck [--seed N]       compares model and original on every kind of case
@@ -96,6 +97,7 @@ fn run(arguments: &[String]) -> io::Result<bool> {
             print!("{}", files::outline(&file));
             Ok(true)
         }
+        ("files", [folder, option]) if option == "--examples" => write_examples(Path::new(folder)),
         ("files", [folder, rest @ ..]) => write_files(Path::new(folder), rest),
         ("answer", []) => answer(),
         ("selfcheck", []) => selfcheck::run(1),
@@ -212,7 +214,7 @@ fn generate(cases: impl Iterator<Item = batch::Case>) -> io::Result<bool> {
     Ok(true)
 }
 
-/// Writes token files and their outlines into a folder.
+/// Writes random token files and their outlines into a folder.
 fn write_files(folder: &Path, options: &[String]) -> io::Result<bool> {
     let (mut seed, mut count) = (1, 1000);
     for pair in options.chunks(2) {
@@ -223,10 +225,29 @@ fn write_files(folder: &Path, options: &[String]) -> io::Result<bool> {
         }
     }
     for (index, file) in gen::token_files::files(seed).take(count).enumerate() {
-        std::fs::write(folder.join(format!("{:06}.tok", index)), &file)?;
-        std::fs::write(folder.join(format!("{:06}.out", index)), files::outline(&file))?;
+        write_file(folder, &format!("{:06}", index), &file)?;
     }
     Ok(true)
+}
+
+/// Writes the worked examples of token files and their outlines into a folder; false if the table has
+/// another answer to one.
+fn write_examples(folder: &Path) -> io::Result<bool> {
+    let mut all_hold = true;
+    for example in files::examples::all() {
+        write_file(folder, example.name, &example.file)?;
+        if !example.holds() {
+            eprintln!("oracle: {}: the table has another answer", example.name);
+            all_hold = false;
+        }
+    }
+    Ok(all_hold)
+}
+
+/// Writes a token file and its outline into a folder.
+fn write_file(folder: &Path, name: &str, file: &[u8]) -> io::Result<()> {
+    std::fs::write(folder.join(format!("{}.tok", name)), file)?;
+    std::fs::write(folder.join(format!("{}.out", name)), files::outline(file))
 }
 
 fn answer() -> io::Result<bool> {

@@ -71,6 +71,13 @@ static const struct bytes FIELDS[] = {
     {"an Integer", {3, 0, 8, 0, 0, 0, 0, 0, 0, 0, 1}, 11},
 };
 
+static const struct bytes CHARACTERS[] = {
+    {"characters of one byte", {'a'}, 1},
+    {"characters of two bytes", {0xC3, 0xA9}, 2},
+    {"characters of three bytes", {0xE2, 0x82, 0xAC}, 3},
+    {"characters of four bytes", {0xF0, 0x9F, 0x98, 0x80}, 4},
+};
+
 static const struct bytes PAYLOADS[] = {
     {"backslashes", {'\\'}, 1},
     {"letters", {'a'}, 1},
@@ -99,6 +106,30 @@ static void files(void) {
         expect(READ_FILE, SHIGTHAPUL_REFUSED_BAD_FIELD, bytes->name, ", the last cut short");
         lent.bytes = MOST_BYTES + 1;
         expect(READ_FILE, SHIGTHAPUL_REFUSED_TOO_LONG, bytes->name, ", too long a file");
+    }
+}
+
+/* Lends a file of one string that has so many bytes of a character over and over. */
+static void lend_text(const struct bytes *character, size_t length) {
+    lent_bytes[0] = SHIGTHAPUL_CLASS_STR;
+    lent_bytes[1] = (uint8_t)(length / 256);
+    lent_bytes[2] = (uint8_t)(length % 256);
+    for (size_t at = 0; at < length; at++)
+        lent_bytes[SHIGTHAPUL_FIELD_HEAD + at] = character->bytes[at % character->count];
+    lent.bytes = SHIGTHAPUL_FIELD_HEAD + length;
+}
+
+/* Files of one text of the greatest length, whole and with its last character cut short. */
+static void texts(void) {
+    for (size_t at = 0; at < COUNT(CHARACTERS); at++) {
+        const struct bytes *character = &CHARACTERS[at];
+        size_t most = MOST_BYTES - SHIGTHAPUL_FIELD_HEAD, whole = most - most % character->count;
+        lent.tokens = 1;
+        lend_text(character, whole);
+        expect(READ_FILE, 0, character->name, ", one long text");
+        lend_text(character, whole - 1);
+        expect(READ_FILE, character->count > 1 ? SHIGTHAPUL_REFUSED_NOT_UNICODE : 0, character->name,
+               ", the last cut short");
     }
 }
 

@@ -75,6 +75,7 @@ int main(int count, char **words) {
         all_readers(false);
         all_readers(true);
         files();
+        texts();
         payloads();
     }
     all_trees();

@@ -1,7 +1,8 @@
-//! Token files: good ones, ones with bad words, bad fields and cuts, and ones at the limits.
+//! Token files: good ones, ones with bad words, bad fields, cuts and payloads that aren't Unicode,
+//! and ones at the limits.
 use super::rng::Rng;
-use super::{chains, damage, grammar, limits, nesting};
-use crate::files::{field, MOST_BYTES};
+use super::{chains, damage, grammar, limits, nesting, payloads};
+use crate::files::{examples, field, tagged, CHARACTER, HEAD, MOST_BYTES, TEXTS};
 use crate::model::Entry;
 use crate::words::{self, *};
 
@@ -23,7 +24,17 @@ fn filled(length: usize) -> Vec<u8> {
     [field(IDENTIFIER, &text), plain(&[SEMICOLON, EOF])].concat()
 }
 
-/// The limits: lengths, fields and rows, and each short file of a kind.
+/// The longest texts of sequences of one to four bytes, each whole and with its last byte cut off.
+fn long_texts() -> impl Iterator<Item = Vec<u8>> {
+    let room = MOST_BYTES - plain(&[STR, EOF]).len();
+    let texts = ["a", "\u{7FF}", "\u{FFFD}", "\u{10FFFF}"].map(|one| one.repeat(room / one.len()));
+    texts.into_iter().flat_map(|text| {
+        let (whole, cut) = (text.as_bytes(), &text.as_bytes()[..text.len() - 1]);
+        [whole, cut].map(|bytes| [field(STR, bytes), plain(&[EOF])].concat())
+    })
+}
+
+/// The limits: lengths, texts, fields and rows, and each short file of a kind; and the worked examples.
 fn fixed() -> Vec<Vec<u8>> {
     let mut files: Vec<Vec<u8>> = (0..=12).map(|length| vec![0; length]).collect();
     files.extend((0..=13).map(|class| vec![class, 0, 0]));
@@ -32,6 +43,8 @@ fn fixed() -> Vec<Vec<u8>> {
         files.push(filled(length));
         files.push(vec![0; length]);
     }
+    files.extend(long_texts());
+    files.extend(examples::all().into_iter().map(|example| example.file));
     for count in [19_998, 19_999, 20_000] {
         files.push(plain(&[vec![EMPTY; count], vec![EOF]].concat()));
     }
@@ -48,13 +61,17 @@ struct Maker {
 }
 
 impl Maker {
-    /// A file: a script's fields, then perhaps damaged or cut.
+    /// A file: a script's fields, perhaps with some that aren't Unicode, then perhaps damaged or cut.
     fn file(&mut self) -> Vec<u8> {
         let words = self.script();
-        let mut file: Vec<u8> = words.iter().flat_map(|&word| self.field(word)).collect();
+        let mut fields: Vec<Vec<u8>> = words.iter().map(|&word| self.field(word)).collect();
+        if self.rng.chance(1, 5) {
+            self.spoil(&mut fields);
+        }
+        let mut file = fields.concat();
         match self.rng.below(8) {
             0 => file.truncate(self.rng.below(file.len() + 1)),
-            1 | 2 => self.damage(&mut file),
+            1 => self.damage(&mut file),
             _ => (),
         }
         file
@@ -78,11 +95,56 @@ impl Maker {
         words
     }
 
-    /// A word's field, with a random payload where it is free.
+    /// A word's field, with a random payload: a text, a character, or any bytes for a number.
     fn field(&mut self, word: u16) -> Vec<u8> {
-        let most = if self.rng.chance(1, 50) { 700 } else { 9 };
-        let text: Vec<u8> = (0..self.rng.below(most)).map(|_| self.rng.below(256) as u8).collect();
-        field(word, &text)
+        let rng = &mut self.rng;
+        match word {
+            CHAR => tagged(CHARACTER, &u32::from(payloads::character(rng)).to_be_bytes()),
+            INTEGER | FLOAT => {
+                let bytes: Vec<u8> = (0..8).map(|_| rng.below(256) as u8).collect();
+                tagged(class(word), &bytes)
+            }
+            _ => {
+                let most = if rng.chance(1, 50) { 300 } else { 6 };
+                field(word, &payloads::text(rng, most))
+            }
+        }
+    }
+
+    /// A field whose payload isn't Unicode.
+    fn no_unicode(&mut self) -> Vec<u8> {
+        if self.rng.chance(1, 4) {
+            tagged(CHARACTER, &payloads::no_character(&mut self.rng).to_be_bytes())
+        } else {
+            tagged(self.rng.pick(&TEXTS), &payloads::no_text(&mut self.rng))
+        }
+    }
+
+    /// Puts payloads that aren't Unicode into a file: behind its end, in a field that is cut short or
+    /// has a wrong length, a character over two fields, or in one to three whole fields.
+    fn spoil(&mut self, fields: &mut Vec<Vec<u8>>) {
+        let at = self.rng.below(fields.len() + 1);
+        let mut bad = self.no_unicode();
+        match self.rng.below(8) {
+            0 => fields.push(bad),
+            1 => {
+                bad.truncate(bad.len() - 1 - self.rng.below(bad.len() - HEAD));
+                fields.truncate(at);
+                fields.push(bad);
+            }
+            2 => fields.insert(at, tagged(CHARACTER, &[0xD8, 0])),
+            3 => {
+                let halves = payloads::halves(&mut self.rng);
+                fields.splice(at..at, halves.map(|half| tagged(self.rng.pick(&TEXTS), &half)));
+            }
+            _ => {
+                fields.insert(at, bad);
+                for _ in 0..self.rng.below(3) {
+                    let other = self.rng.below(fields.len() + 1);
+                    fields.insert(other, self.no_unicode());
+                }
+            }
+        }
     }
 
     /// Changes, inserts or deletes one to three bytes.
@@ -105,7 +167,7 @@ impl Maker {
 mod tests {
     use super::*;
     use crate::files::outline;
-    use std::collections::BTreeMap;
+    use std::collections::{BTreeMap, BTreeSet};
 
     #[test]
     fn files_of_each_outcome() {
@@ -115,10 +177,25 @@ mod tests {
             let key = text.split(' ').take(if text.starts_with("ok") { 1 } else { 2 });
             *counts.entry(key.collect::<Vec<_>>().join(" ")).or_default() += 1;
         }
-        for outcome in ["ok", "no 1", "no 2", "no 3", "no 5", "no 6", "no 10", "no 12"] {
+        for outcome in ["ok", "no 1", "no 2", "no 3", "no 5", "no 6", "no 10", "no 12", "no 33"] {
             assert!(counts.get(outcome).is_some(), "{} in {:?}", outcome, counts);
         }
         assert!(counts["ok"] > 800, "{:?}", counts);
+    }
+
+    #[test]
+    fn spoilt_files_compete() {
+        let mut maker = Maker { rng: Rng::new(2), all: words::all_but_eof() };
+        let mut answer = || {
+            let mut fields = vec![maker.field(IDENTIFIER), maker.field(CHAR), plain(&[EOF])];
+            maker.spoil(&mut fields);
+            outline(&fields.concat())
+        };
+        let answers: BTreeSet<String> = (0..300).map(|_| answer()).collect();
+        for number in [5, 33] {
+            let expected = (0..4).map(|place| format!("no {} {}\n", number, place));
+            expected.for_each(|one| assert!(answers.contains(&one), "{} in {:?}", one, answers));
+        }
     }
 
     #[test]
