@@ -28,7 +28,7 @@ build_bench() { # SRC_DIR
 build_plain() {
     mkdir -p "$PLAIN_DIR"
     rm -f "$PLAIN_DIR/libplain.a"
-    for build_name in reader writer; do
+    for build_name in reader writer unicode; do
         "$CC" -std=c11 -O3 -Wall -Wextra -c -o "$PLAIN_DIR/$build_name.o" "$here/$build_name.c"
         "$AR" rc "$PLAIN_DIR/libplain.a" "$PLAIN_DIR/$build_name.o"
     done

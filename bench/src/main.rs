@@ -1,12 +1,18 @@
 //! The bench's commands: tables of times, and one run of a reader or a writer between two marks, for counting instructions.
 mod agree;
 mod chance;
+mod characters;
 mod clock;
 mod count;
+mod file_agree;
+mod file_readers;
+mod file_tables;
+mod files;
 mod lexer;
 mod readers;
 mod scripts;
 mod tables;
+mod texts;
 mod timing;
 mod trees;
 mod writers;
@@ -29,6 +35,8 @@ mod sizes;
 // The original parser's text, copied at build time.
 include!(concat!(env!("OUT_DIR"), "/original.rs"));
 
+use file_readers::FileReader;
+use files::Content;
 use readers::Reader;
 use scripts::Kind;
 use trees::Shape;
@@ -37,10 +45,14 @@ use writers::Writer;
 const USAGE: &str = "commands:
   times [--samples N]         tables of the readers' times, best of N samples (15 unless given)
   trees [--samples N]         the table of the writers' times
+  files [--samples N]         the tables of the times for token files and texts
   count READER KIND TOKENS    one read between two marks
       (readers: original ours strict plain; kinds: chains calls statements)
   count-tree WRITER SHAPE ROWS   one check or writing of a tree between two marks
-      (writers: check plain-check write plain-write; shapes: deep wide mixed)";
+      (writers: check plain-check write plain-write; shapes: deep wide mixed)
+  count-file READER KIND BYTES   one read of a token file between two marks, of at most so many bytes (60000 or fewer)
+      (readers: ours, and plain for the last five kinds; kinds: chain.tok label.tok report.tok thinning.tok
+      unclosed.tok chains calls statements ascii two three four mixed)";
 
 /// How many samples are taken unless it is said.
 const SAMPLES: usize = 15;
@@ -63,28 +75,40 @@ fn main() {
 fn run(arguments: &[String]) -> bool {
     let words: Vec<&str> = arguments.iter().map(String::as_str).collect();
     match words[..] {
-        ["times"] => tables::print(SAMPLES),
-        ["trees"] => written::print(SAMPLES),
-        [table, "--samples", samples] => match (table, samples.parse()) {
-            ("times", Ok(samples)) if samples > 0 => tables::print(samples),
-            ("trees", Ok(samples)) if samples > 0 => written::print(samples),
-            _ => return false,
+        [table] => print(table, SAMPLES),
+        [table, "--samples", samples] => match samples.parse() {
+            Ok(samples) if samples > 0 => print(table, samples),
+            _ => false,
         },
-        ["count-tree", writer, shape, rows] => {
-            match (Writer::named(writer), Shape::named(shape), rows.parse()) {
-                (Some(writer), Some(shape), Ok(rows)) if rows > 2 => {
-                    written::once(writer, shape, rows)
-                }
-                _ => return false,
-            }
-        }
-        ["count", reader, kind, tokens] => {
-            match (Reader::named(reader), Kind::named(kind), tokens.parse()) {
-                (Some(reader), Some(kind), Ok(tokens)) => count::once(reader, kind, tokens),
-                _ => return false,
-            }
-        }
+        [command, by, kind, size] => match size.parse() {
+            Ok(size) => once(command, by, kind, size).is_some(),
+            Err(_) => false,
+        },
+        _ => false,
+    }
+}
+
+/// Prints tables by their name; false if there are none such.
+fn print(table: &str, samples: usize) -> bool {
+    match table {
+        "times" => tables::print(samples),
+        "trees" => written::print(samples),
+        "files" => file_tables::print(samples),
         _ => return false,
     }
     true
+}
+
+/// Runs a reader or a writer once between the marks, each by its name; none if there is none such.
+fn once(command: &str, by: &str, kind: &str, size: usize) -> Option<()> {
+    match command {
+        "count" => count::once(Reader::named(by)?, Kind::named(kind)?, size),
+        "count-tree" if size > 2 => written::once(Writer::named(by)?, Shape::named(kind)?, size),
+        "count-file" if (files::AROUND..=files::MOST).contains(&size) => {
+            let content = Content::named(kind)?;
+            file_tables::once(FileReader::named(by, content)?, content, size)
+        }
+        _ => return None,
+    }
+    Some(())
 }

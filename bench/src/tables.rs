@@ -110,17 +110,9 @@ fn row(kind: Kind, line: &Line, readers: &[Reader]) -> String {
 /// A token's time in the largest script, beside that in the smallest.
 fn print_growth(lines: &[Line], readers: &[Reader]) {
     let (from, to) = (&lines[0], &lines[lines.len() - 1]);
-    let grown = |&reader: &Reader| {
-        let times = to.each(readers, reader) / from.each(readers, reader);
-        format!("{} {:.2}", reader.name(), times)
-    };
-    let all: Vec<String> = readers.iter().map(grown).collect();
-    println!(
-        "  a token's time at {} tokens, over that at {}: {} (1 is linear)",
-        to.size,
-        from.size,
-        all.join(", ")
-    );
+    let grown =
+        |&reader: &Reader| (reader.name(), to.each(readers, reader) / from.each(readers, reader));
+    timing::print_growth("token", from.size, to.size, readers.iter().map(grown));
 }
 
 /// The same small scripts with larger and larger pools: all words of a pool are cleared at each call.

@@ -1,4 +1,4 @@
-//! How long something takes: readers for some scripts, or whatever can be done in passes.
+//! How long something takes: readers for some scripts, or whatever can be done in passes; and how that grows.
 use crate::clock;
 use crate::readers::{self, Reader};
 use std::time::Duration;
@@ -46,6 +46,36 @@ fn passes_of_a_sample(which: usize, sample: &mut dyn FnMut(usize, usize) -> Dura
     passes
 }
 
+/// The time of so many passes over some things, each of which must be taken.
+pub fn passes_over<T>(things: &[T], passes: usize, mut taken: impl FnMut(&T) -> bool) -> Duration {
+    let start = clock::now();
+    for _ in 0..passes {
+        for thing in things {
+            assert!(taken(thing));
+        }
+    }
+    clock::now() - start
+}
+
+/// The line about how the time of a part, as a token or a row, grows from things of so many parts to larger ones: the
+/// name of each that is timed, and the one time over the other.
+pub fn print_growth<'a>(
+    part: &str,
+    from: usize,
+    to: usize,
+    ratios: impl Iterator<Item = (&'a str, f64)>,
+) {
+    let all: Vec<String> = ratios.map(|(name, ratio)| format!("{} {:.2}", name, ratio)).collect();
+    println!(
+        "  a {}'s time at {} {}s, over that at {}: {} (1 is linear)",
+        part,
+        to,
+        part,
+        from,
+        all.join(", ")
+    );
+}
+
 /// The time of so many passes.
 fn sample(reader: Reader, cases: &[Case], pool: &mut [u32], passes: usize) -> Duration {
     match reader {
@@ -62,13 +92,8 @@ fn sample_of(
     pool: &mut [u32],
     passes: usize,
 ) -> Duration {
-    let start = clock::now();
-    for _ in 0..passes {
-        for case in cases {
-            assert_eq!(read(&case.tokens, &mut pool[..case.words])[0], 0);
-        }
-    }
-    clock::now() - start
+    let taken = |case: &Case| read(&case.tokens, &mut pool[..case.words])[0] == 0;
+    passes_over(cases, passes, taken)
 }
 
 /// The tokens are made before, and the trees dropped behind; neither is counted.

@@ -1,5 +1,4 @@
 //! The tables of the check and the writer: every shape and size, how time grows; and one run between two marks.
-use crate::clock;
 use crate::count::{count_begin, count_end};
 use crate::readers::{MOST_ROWS, ROW};
 use crate::timing;
@@ -114,15 +113,11 @@ fn line(shape: Shape, rows: usize, writers: &[Writer], samples: usize) -> Line {
 
 /// The time of so many passes over the trees.
 fn sample(writer: Writer, cases: &[Case], room: &mut Room, passes: usize) -> Duration {
-    let start = clock::now();
-    for _ in 0..passes {
-        for case in cases {
-            let root = case.pool.len() / ROW;
-            let (words, places) = (&mut room.words[..case.tokens], &mut room.places[..case.tokens]);
-            assert_eq!(writer.run(&case.pool, root, words, places)[0], 0);
-        }
-    }
-    clock::now() - start
+    timing::passes_over(cases, passes, |case| {
+        let root = case.pool.len() / ROW;
+        let (words, places) = (&mut room.words[..case.tokens], &mut room.places[..case.tokens]);
+        writer.run(&case.pool, root, words, places)[0] == 0
+    })
 }
 
 fn head(writers: &[Writer]) -> String {
@@ -155,16 +150,8 @@ fn row(shape: Shape, line: &Line, writers: &[Writer]) -> String {
 /// A row's time in the largest tree, beside that in the smallest.
 fn print_growth(lines: &[Line], writers: &[Writer]) {
     let (from, to) = (&lines[0], &lines[lines.len() - 1]);
-    let grown = |(at, writer): (usize, &Writer)| {
-        format!("{} {:.2}", writer.name(), to.times[at] / from.times[at])
-    };
-    let all: Vec<String> = writers.iter().enumerate().map(grown).collect();
-    println!(
-        "  a row's time at {} rows, over that at {}: {} (1 is linear)",
-        to.rows,
-        from.rows,
-        all.join(", ")
-    );
+    let grown = |(at, writer): (usize, &Writer)| (writer.name(), to.times[at] / from.times[at]);
+    timing::print_growth("row", from.rows, to.rows, writers.iter().enumerate().map(grown));
 }
 
 /// Runs a writer once between the marks, on a tree of a shape and a size.
