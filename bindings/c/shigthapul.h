@@ -177,7 +177,7 @@ struct shigthapul_field {
 enum { SHIGTHAPUL_FIELD_HEAD = 3 };
 
 /* Takes the first field off the front of `rest`; at first `rest` is the whole file. Where there is none, or where it is
-   cut short, the answer is false, and both stay as they were. It looks at no byte behind `rest`, whatever they hold.
+   cut short, the answer is false, and both stay as they were. It looks at no byte behind `rest`, whatever its bytes hold.
 
    If shigthapul_read_file has accepted the file, the fields come in the order of the token words, as many as them. Then
    the payload of a Str, an Identifier or an Unknown is well-formed UTF-8, which is proved. It may hold bytes that are 0,

@@ -44,7 +44,7 @@ table! {
         WrongSign = 30, "a call with arguments: no ); while, foreach, finally: no {";
         /// A buffer of token words or of places is too short for a tree.
         TooShort = 32, "no room for what is written";
-        /// [`Field`](crate::Field) says which payloads are text.
+        /// A Str, an Identifier or an Unknown that is not well-formed UTF-8, or a Char that is no scalar value.
         NotUnicode = 33, "the token file: a text or a Char that is not Unicode";
         /// [`check`](crate::check) says what a tree is.
         NoTree = 38, "not a tree: the root, or a row that it reaches";

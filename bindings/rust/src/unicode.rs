@@ -7,7 +7,8 @@
 //!
 //! - `UnicodePayloads`: in a file that is accepted each Str, Identifier and Unknown is well-formed
 //!   UTF-8, and each Char, the high byte first, is a Unicode scalar value.
-//! - `FoldKeeps`: the fold of well-formed UTF-8 is well-formed UTF-8.
+//! - `TextKeeps`: what is handed back behind a fold of well-formed UTF-8 is well-formed UTF-8, whatever the
+//!   work buffer.
 //!
 //! What is left to see to here is that the bytes are those that the claims speak of. A [`TokenFile`]
 //! comes only from [`TokenFile::read`], where the library has just accepted its bytes. It borrows them
@@ -149,7 +150,6 @@ impl<'a> Field<'a> {
 pub fn fold_str<'a>(payload: &'a str, work: &'a mut [u8]) -> Result<&'a str, Refusal> {
     let payload = payload.as_bytes();
     fold(payload, work)?;
-    // SAFETY: whatever `work` held, where the fold isn't refused this is the fold of a `str`, or that
-    // `str` itself. The first is well-formed by `FoldKeeps`.
+    // SAFETY: by `TextKeeps`; see the head of this module.
     Ok(unsafe { from_utf8_unchecked(text(payload, work)) })
 }

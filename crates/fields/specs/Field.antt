@@ -47,7 +47,7 @@ unfoldable pub number : (before : ℕ) → List ℕ → ℕ
 number before [] = before
 number before (b ∷ bytes) = number (before * 256 + b) bytes
 
--- Whether what a payload holds is Unicode: the number of a Char a scalar value, a text well-formed UTF-8. Of the other classes nothing is asked.
+-- Whether what a payload holds is Unicode: the number of a Char a scalar value, a text well-formed UTF-8. No other is asked.
 unfoldable pub unicode : (tag : ℕ) (payload : List ℕ) → Bool
 unicode tag payload = cond (eqb tag (class Char)) (scalar (number 0 payload)) (cond (text tag) (well-formed payload) true)
 

@@ -1,5 +1,5 @@
 -- A good field, taken apart; and what a bad one is refused with.
-use mathlib.Core.Path.{_≡_, refl, sym, ap, subst, _∙_}
+use mathlib.Core.Path.{_≡_, refl, sym, subst}
 use mathlib.Core.Bool.{Bool, true, false, cond}
 use mathlib.Core.List.{List, [], _∷_, _++_}
 use Prim.Native.Nat.{ℕ, _+_, _*_, _≤_, _<_}
@@ -15,7 +15,14 @@ use Rattle.fields.specs.Field.{head, BadField, NotUnicode, allowed, unicode, wo
 pub never : {n w width : ℕ} → Refused n ≡ Good w width → ⊥
 never e = let z : _≡_ {A = ℕ} 0 1 = cc in omega arith
 
--- a good field: its head, a payload of that length which is Unicode, and what is behind it
+-- what is known of the tag and the payload of a good field
+pub record Told (tag : ℕ) (payload : List ℕ) (w width : ℕ) : Type 0 where
+  pub right : allowed tag (length payload) ≡ true
+  pub text : unicode tag payload ≡ true
+  pub its-word : w ≡ word tag payload
+  pub takes : width ≡ head + length payload
+
+-- a good field: its head, a payload of that length, and what is behind it
 pub record GoodField (part : List ℕ) (w width : ℕ) : Type 0 where
   pub tag : ℕ
   pub high : ℕ
@@ -24,20 +31,19 @@ pub record GoodField (part : List ℕ) (w width : ℕ) : Type 0 where
   pub rest : List ℕ
   pub split : part ≡ tag ∷ high ∷ low ∷ (payload ++ rest)
   pub long : length payload ≡ high * 256 + low
-  pub text : unicode tag payload ≡ true
-  pub its-word : w ≡ word tag payload
-  pub takes : width ≡ head + length payload
+  pub told : Told tag payload w width
 
 module _ {w width : ℕ} where
-  told : (tag : ℕ) (payload : List ℕ) → whole tag payload ≡ Good w width → (unicode tag payload ≡ true) × (w ≡ word tag payload) × (width ≡ head + length payload)
+  whole-told : (tag : ℕ) (payload : List ℕ) → whole tag payload ≡ Good w width → Told tag payload w width
   unfolding whole
-  told tag payload e = go (allowed tag (length payload)) (unicode tag payload) refl e
+  whole-told tag payload e = go (allowed tag (length payload)) (unicode tag payload) refl refl e
     where
-      go : (t u : Bool) → unicode tag payload ≡ u → cond t (cond u (Good (word tag payload) (head + length payload)) (Refused NotUnicode)) (Refused BadField) ≡ Good w width
-          → (unicode tag payload ≡ true) × (w ≡ word tag payload) × (width ≡ head + length payload)
-      go true true p f = (p, cc, cc)
-      go true false p f = absurd (never f)
-      go false u p f = absurd (never f)
+      go : (t u : Bool) → allowed tag (length payload) ≡ t → unicode tag payload ≡ u
+          → cond t (cond u (Good (word tag payload) (head + length payload)) (Refused NotUnicode)) (Refused BadField) ≡ Good w width
+          → Told tag payload w width
+      go true true a p f = record { right = a; text = p; its-word = cc; takes = cc }
+      go true false a p f = absurd (never f)
+      go false u a p f = absurd (never f)
 
   pub good-field : (part : List ℕ) → first part ≡ Good w width → GoodField part w width
   unfolding first
@@ -51,7 +57,6 @@ module _ {w width : ℕ} where
 
       go : (t : Bool) → leb size (length rest) ≡ t → cond t (whole tag (take size rest)) (Refused BadField) ≡ Good w width → GoodField (tag ∷ high ∷ low ∷ rest) w width
       go true t f =
-          let k = told tag (take size rest) f in
           record {
             tag = tag;
             high = high;
@@ -60,9 +65,7 @@ module _ {w width : ℕ} where
             rest = drop size rest;
             split = rw (take-append-drop size rest);
             long = length-take-le size rest (leb-true size (length rest) t);
-            text = k .0;
-            its-word = k .1;
-            takes = k .2;
+            told = whole-told tag (take size rest) f;
           }
       go false t f = absurd (never f)
 
@@ -74,12 +77,12 @@ pub record Taken (part : List ℕ) (width : ℕ) : Type 0 where
 pub taken : (part : List ℕ) {w width : ℕ} → first part ≡ Good w width → Taken part width
 taken part e =
     let g = good-field part e in
-    record { some = omega (arith, g .takes); held = rw (g .split) (simp length-append (omega (arith, g .takes))) }
+    record { some = omega (arith, g .told .takes); held = rw (g .split) (simp length-append (omega (arith, g .told .takes))) }
 
 -- behind them is what is behind it
 pub behind : {part : List ℕ} {w width : ℕ} (g : GoodField part w width) → drop width part ≡ g .rest
 behind g =
-    rw (g .takes, g .split, ← drop-drop (length (g .payload)) head (g .tag ∷ g .high ∷ g .low ∷ (g .payload ++ g .rest))) (drop-append-seam (g .payload) (g .rest))
+    rw (g .told .takes, g .split, ← drop-drop (length (g .payload)) head (g .tag ∷ g .high ∷ g .low ∷ (g .payload ++ g .rest))) (drop-append-seam (g .payload) (g .rest))
 
 -- a bad one is refused with one of two numbers
 pub bad-field : (part : List ℕ) {n : ℕ} (P : ℕ → Type 0) → P BadField → P NotUnicode → first part ≡ Refused n → P n

@@ -1,7 +1,7 @@
 -- A file that is accepted holds Unicode in every field, and its words are those of its fields.
 use mathlib.Core.Path.{_≡_, refl, sym, _∙_}
 use mathlib.Core.Bool.{Bool, true, false, cond}
-use mathlib.Core.List.{List, [], _∷_, _++_}
+use mathlib.Core.List.{List, [], _∷_}
 use Prim.Native.Nat.{ℕ, zero, suc, _≤_}
 use native.Mathlib.Omega.{arith}
 use lib.Dec.{leb}
@@ -11,14 +11,14 @@ use Rattle.fields.specs.declared.Field.the-variants as field
 use Rattle.fields.specs.Field.{first}
 use Rattle.files.specs.File.{Content, read, refused, NoRoom, TooLong, most, before, fields}
 use Rattle.files.specs.Entry.{within, content}
-use Rattle.files.specs.Claims.{Holds, none, field, Unicodes, UnicodePayloads}
+use Rattle.files.specs.Claims.{Holds, none, field, UnicodePayloads}
 use Rattle.files.proofs.Good.{GoodField, good-field, taken, behind}
 use Rattle.files.proofs.Pass.{good-next, bad-next, none-left}
 use Rattle.files.proofs.Outcomes.{accepted}
 
 -- a good field holds Unicode, and the file goes on behind it
 one-more : {part words : List ℕ} {w width : ℕ} → GoodField part w width → Holds (drop width part) words → Holds part (w ∷ words)
-one-more g k = rw (g .split, g .its-word) (field (g .tag) (g .high) (g .low) (g .payload) (g .rest) _ (g .long) (g .text) (rw (behind g) at k))
+one-more g k = rw (g .split, g .told .its-word) (field (g .tag) (g .high) (g .low) (g .payload) (g .rest) _ (g .long) (g .told .right) (g .told .text) (rw (behind g) at k))
 
 -- words behind a first one
 before-read : (w : ℕ) (c : Content) {words : List ℕ} → before w c ≡ read words → (ws : List ℕ) × (c ≡ read ws) × (words ≡ w ∷ ws)

@@ -4,13 +4,14 @@ use mathlib.Core.Path.{_≡_}
 use mathlib.Core.Bool.{true}
 use mathlib.Core.List.{List, [], _∷_, _++_}
 use lib.ListN.{length, replicate}
-use Rattle.fields.specs.Field.{unicode, word}
+use Rattle.fields.specs.Field.{allowed, unicode, word}
 use Rattle.files.specs.Entry.{answer, file-answer, file-buffer}
 
--- Fields, one behind another and nothing else, each of which holds Unicode as far as its class asks for that; and their words.
+-- Fields, one behind another and nothing else, and their words: each has a length that goes with its tag, and holds Unicode as far as that asks for it.
 pub data Holds : (bytes words : List ℕ) → Type 0 where
   none : Holds [] []
-  field : (tag high low : ℕ) (payload rest words : List ℕ) → length payload ≡ high * 256 + low → unicode tag payload ≡ true → Holds rest words
+  field : (tag high low : ℕ) (payload rest words : List ℕ) → length payload ≡ high * 256 + low → allowed tag (length payload) ≡ true → unicode tag payload ≡ true
+      → Holds rest words
       → Holds (tag ∷ high ∷ low ∷ (payload ++ rest)) (word tag payload ∷ words)
 
 -- Such fields, so many of them, whose words stand in front of a buffer of so many words.

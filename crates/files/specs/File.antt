@@ -27,7 +27,7 @@ unfoldable pub before : ℕ → Content → Content
 before w (read words) = read (w ∷ words)
 before w (refused number place) = refused number place
 
--- The words of the fields, the first of which has this number; the first one that is bad is refused at its own. There are no more fields than bytes, which is the bound.
+-- The words of the fields, the first of which has this number; a bad one is refused at its own. No more fields than bytes: the bound.
 unfoldable pub fields : (bound number : ℕ) → List ℕ → Content
 fields zero number bytes = read []
 fields (suc bound) number [] = read []

@@ -9,7 +9,7 @@ use borrow.Author.Tests.{eqb-true, eqb-false, ne-eqb}
 use lib.Dec.{eqb, leb}
 use lib.ListN.{length}
 use Rattle.unicode.specs.Unicode.{sequences, well-formed, encode, encoded}
-use Rattle.unicode.specs.Claims.{Scalars, Text}
+use Rattle.unicode.specs.Claims.{Scalars}
 use Rattle.unicode.proofs.Values.{some, encode-1, encode-2, encode-3, encode-4}
 use Rattle.unicode.proofs.Texts.{well-formed-texts}
 use Rattle.text.specs.Fold.{choose, pair, has-pair, folded}

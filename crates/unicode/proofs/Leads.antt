@@ -2,12 +2,12 @@
 use mathlib.Core.Path.{_≡_, refl, _∙_}
 use mathlib.Core.Bool.{Bool, true, false, cond, _&&_, and-eq-true-iff}
 use mathlib.Core.List.{List, [], _∷_, _++_}
-use Prim.Native.Nat.{ℕ, suc, _≤_, _<_}
+use Prim.Native.Nat.{ℕ, _≤_, _<_}
 use native.Mathlib.Omega.{arith}
 use borrow.Author.Tests.{le-leb, lt-leb, ltb-true}
 use lib.Dec.{leb, ltb}
 use lib.ListN.{length, take, drop}
-use Rattle.unicode.specs.Unicode.{Range, _to_, within, tail, table, begins, first}
+use Rattle.unicode.specs.Unicode.{Range, _to_, tail, table, begins, first}
 
 -- whether the first range of every row ends below a number, and whether it begins above one
 below : ℕ → List (List Range) → Bool

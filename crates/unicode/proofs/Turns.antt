@@ -1,11 +1,10 @@
 -- A turn of the sequences: the first one is taken off, or there is none.
 use mathlib.Core.Path.{_≡_, refl}
-use mathlib.Core.Bool.{Bool, true, false, cond, and-eq-true-iff}
+use mathlib.Core.Bool.{true, false}
 use mathlib.Core.List.{List, [], _∷_}
-use Prim.Native.Nat.{ℕ, zero, suc, _≤_}
-use native.Mathlib.Omega.{arith}
-use lib.ListN.{length, drop}
-use Rattle.unicode.specs.Unicode.{Range, within, table, begins, first, sequences}
+use Prim.Native.Nat.{ℕ, zero, suc}
+use lib.ListN.{drop}
+use Rattle.unicode.specs.Unicode.{table, first, sequences}
 
 module _ (bound b : ℕ) (bytes : List ℕ) where
   pub turned : {n : ℕ} → first table (b ∷ bytes) ≡ suc n → sequences (suc bound) (b ∷ bytes) ≡ sequences bound (drop n bytes)

@@ -2,7 +2,7 @@
 use mathlib.Core.Path.{sym, _∙_}
 use native.Mathlib.Omega.{arith}
 use borrow.Author.Needs.{needs}
-use borrow.Author.Tests.{eq-eqb, ne-eqb}
+use borrow.Author.Tests.{ne-eqb}
 use Rattle.fields.proofs.Wholes.{of-code}
 use Rattle.fields.proofs.of_code.Statement.{statement}
 use Rattle.fields.proofs.of_code.Tie as tie

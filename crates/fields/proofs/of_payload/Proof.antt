@@ -2,10 +2,10 @@
 use mathlib.Core.Path.{_≡_, refl, sym, _∙_}
 use mathlib.Core.Bool.{Bool, true, false}
 use mathlib.Core.Logic.{⊎-elim}
-use Prim.Native.Nat.{ℕ, _+_, _≤_, _<_}
+use Prim.Native.Nat.{ℕ}
 use native.Mathlib.Omega.{arith}
-use Rattle.grammar.specs.Words.{Operator, Keyword, class}
-use Rattle.fields.specs.Field.{Unknown, coded, text}
+use Rattle.grammar.specs.Words.{class}
+use Rattle.fields.specs.Field.{coded}
 use Rattle.fields.proofs.Arms.{neither, above}
 use Rattle.fields.proofs.Wholes.{of-number, of-nothing, of-none, by-size}
 use Rattle.fields.proofs.of_payload.Statement.{statement}

@@ -1,7 +1,7 @@
 -- `fields::of_sign` meets its contract: the length, and then the number.
 use mathlib.Core.Path.{sym, ap, _∙_}
 use borrow.Author.Needs.{needs}
-use borrow.Author.Tests.{eq-eqb, ne-eqb, not-true, not-false}
+use borrow.Author.Tests.{ne-eqb, not-true, not-false}
 use Rattle.unicode.specs.Unicode.{scalar}
 use Rattle.fields.proofs.Wholes.{of-sign}
 use Rattle.fields.proofs.of_sign.Statement.{statement}

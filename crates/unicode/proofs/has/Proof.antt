@@ -1,12 +1,7 @@
 -- `unicode::has` meets its contract: by the byte, where there is one.
-use mathlib.Core.Path.{_≡_, sym, _∙_}
-use mathlib.Core.Bool.{_&&_}
-use mathlib.Core.List.{[], _∷_}
+use mathlib.Core.Path.{sym, _∙_}
 use borrow.Author.Needs.{needs}
 use borrow.Author.Tests.{le-leb, lt-leb}
-use lib.Dec.{leb}
-use lib.ListN.{getD, drop}
-use Rattle.unicode.specs.Unicode.{_to_, begins}
 use Rattle.unicode.proofs.Parts.{missing, there}
 use Rattle.unicode.proofs.has.Statement.{statement}
 use Rattle.unicode.proofs.has.Tie as tie

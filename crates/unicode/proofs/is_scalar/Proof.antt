@@ -1,6 +1,5 @@
 -- `unicode::is_scalar` meets its contract: below the surrogates, among them, and behind them.
 use mathlib.Core.Path.{sym}
-use native.Mathlib.Omega.{arith}
 use Rattle.unicode.proofs.Values.{low-scalar, no-scalar, behind-scalar}
 use Rattle.unicode.proofs.is_scalar.Statement.{statement}
 use Rattle.unicode.proofs.is_scalar.Tie as tie

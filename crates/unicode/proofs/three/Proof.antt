@@ -1,6 +1,5 @@
 -- `unicode::three` meets its contract: the second byte, and then the third.
 use mathlib.Core.Path.{sym, _∙_}
-use mathlib.Core.Bool.{false}
 use mathlib.Core.List.{[], _∷_}
 use Rattle.unicode.specs.Unicode.{_to_, tail}
 use Rattle.unicode.proofs.Parts.{parts}
