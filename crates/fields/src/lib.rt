@@ -124,7 +124,7 @@ fn of_length(tag: u8, payload: &[u8], size: usize) -> Field
     Field::Good(tag as u16 * 256, HEAD + size)
 }
 
-// The field of a tag and its payload. Codes come first, as half of the fields and more have one.
+// The field of a tag and its payload. Codes come first: in most scripts half of the fields and more have one.
 fn of_payload(tag: u8, payload: &[u8]) -> Field
     ensures { λ r. ⌜ r ≡ whole tag (now (payload .entry)) ⌝ }
 {

@@ -1,6 +1,6 @@
 -- A sequence of the table is the bytes of a scalar value.
 use mathlib.Core.Path.{_≡_, refl, sym, ap, subst, _∙_}
-use mathlib.Core.Bool.{Bool, true, false, cond, _&&_, and-eq-true-iff}
+use mathlib.Core.Bool.{Bool, true, cond, _&&_, and-eq-true-iff}
 use mathlib.Core.List.{List, [], _∷_, _++_}
 use Prim.Native.Nat.{ℕ, suc, _≤_, _<_}
 use native.Mathlib.Decide.{decLt}
@@ -9,7 +9,7 @@ use borrow.Author.Tests.{leb-true}
 use lib.Dec.{leb}
 use lib.ListN.{length}
 use Rattle.unicode.specs.Unicode.{Range, _to_, scalar, tail, table, begins, first, encode}
-use Rattle.unicode.proofs.Leads.{row-1, row-2, row-3, row-4, row-5, row-6, row-7, row-8, row-9, no-row, no-row-behind, no-bytes}
+use Rattle.unicode.proofs.Leads.{row-1, row-2, row-3, row-4, row-5, row-6, row-7, row-8, row-9, no-row, no-row-behind, no-bytes, counted}
 use Rattle.unicode.proofs.Values.{low-scalar, high-scalar, value-2, value-3, value-4, encode-1, encode-2, encode-3, encode-4}
 
 -- bytes that begin with a scalar value's, and what is behind
@@ -92,11 +92,6 @@ module _ (b : ℕ) (bytes : List ℕ) where
       let bs : encode c ≡ b ∷ x ∷ y ∷ z ∷ [] =
       encode-4 c (omega arith) ∙ same (omega arith) (same (omega arith) (same (omega arith) (same (omega arith) refl))) in
       record { value = c; good = high-scalar c (omega arith) (omega arith); rest = r .behind; split = same refl (p .whole ∙ same refl (q .whole ∙ same refl (r .whole))) ∙ sym (ap (λ (l : List ℕ). l ++ r .behind) bs); long = rw bs }
-
--- what a test that gave a count, and not 0, tells
-pub counted : (t : Bool) (k n : ℕ) → cond t k 0 ≡ suc n → (t ≡ true) × (k ≡ suc n)
-counted true k n e = (refl, e)
-counted false k n e = absurd (omega arith)
 
 pub found : (bytes : List ℕ) (n : ℕ) → first table bytes ≡ suc n → Sequence bytes (suc n)
 found [] n e = absurd (omega (arith, no-bytes))

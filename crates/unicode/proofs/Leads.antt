@@ -2,7 +2,7 @@
 use mathlib.Core.Path.{_≡_, refl, _∙_}
 use mathlib.Core.Bool.{Bool, true, false, cond, _&&_, and-eq-true-iff}
 use mathlib.Core.List.{List, [], _∷_, _++_}
-use Prim.Native.Nat.{ℕ, _≤_, _<_}
+use Prim.Native.Nat.{ℕ, suc, _≤_, _<_}
 use native.Mathlib.Omega.{arith}
 use borrow.Author.Tests.{le-leb, lt-leb, ltb-true}
 use lib.Dec.{leb, ltb}
@@ -19,6 +19,11 @@ above : ℕ → List (List Range) → Bool
 above n [] = true
 above n ([] ∷ rows) = false
 above n ((low to high ∷ rs) ∷ rows) = ltb n low && above n rows
+
+-- what a test that gave a count, and not 0, tells
+pub counted : (t : Bool) (k n : ℕ) → cond t k 0 ≡ suc n → (t ≡ true) × (k ≡ suc n)
+counted true k n e = (refl, e)
+counted false k n e = absurd (omega arith)
 
 -- no bytes, no sequence
 pub no-bytes : first table [] ≡ 0

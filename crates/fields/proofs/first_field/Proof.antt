@@ -1,11 +1,13 @@
 -- `fields::first_field` meets its contract: its head, and then its payload where that is whole.
 use mathlib.Core.Path.{_≡_, refl, sym, _∙_}
+use mathlib.Core.Bool.{cond}
 use mathlib.Core.List.{List, [], _∷_}
 use Prim.Native.Nat.{ℕ, _+_, _*_, _-_, _≤_, _<_}
 use native.Mathlib.Omega.{arith}
 use borrow.Author.Needs.{needs}
 use borrow.Author.Tests.{le-leb, lt-leb}
-use lib.ListN.{length, getD, take, drop}
+use lib.Dec.{leb}
+use lib.ListN.{length, getD, take, drop, length-drop}
 use Rattle.fields.specs.declared.Field.the-variants.{Refused}
 use Rattle.fields.specs.Field.{BadField, whole, first}
 use Rattle.fields.proofs.first_field.Statement.{statement}
@@ -19,21 +21,22 @@ cut (tag ∷ []) h = refl
 cut (tag ∷ high ∷ []) h = refl
 cut (tag ∷ high ∷ low ∷ rest) h = absurd (omega arith)
 
--- behind a whole head, a payload that is cut and one that is not
+-- behind a whole head the payload decides: one that is cut, and one that is not
 module _ (size : ℕ) where
-  short : (part : List ℕ) → 3 ≤ length part → size ≡ getD part 1 0 * 256 + getD part 2 0 → length part - 3 < size → first part ≡ Refused BadField
+  headed : (part : List ℕ) → 3 ≤ length part → size ≡ getD part 1 0 * 256 + getD part 2 0
+      → first part ≡ cond (leb size (length (drop 3 part))) (whole (getD part 0 0) (take size (drop 3 part))) (Refused BadField)
   unfolding first
-  short [] h e s = absurd (omega arith)
-  short (tag ∷ []) h e s = absurd (omega arith)
-  short (tag ∷ high ∷ []) h e s = absurd (omega arith)
-  short (tag ∷ high ∷ low ∷ rest) h e s = rw (sym e, lt-leb size (length rest) (omega arith))
+  headed [] h e = absurd (omega arith)
+  headed (tag ∷ []) h e = absurd (omega arith)
+  headed (tag ∷ high ∷ []) h e = absurd (omega arith)
+  headed (tag ∷ high ∷ low ∷ rest) h e = rw e
 
-  held : (part : List ℕ) → 3 ≤ length part → size ≡ getD part 1 0 * 256 + getD part 2 0 → size ≤ length part - 3 → first part ≡ whole (getD part 0 0) (take size (drop 3 part))
-  unfolding first
-  held [] h e s = absurd (omega arith)
-  held (tag ∷ []) h e s = absurd (omega arith)
-  held (tag ∷ high ∷ []) h e s = absurd (omega arith)
-  held (tag ∷ high ∷ low ∷ rest) h e s = rw (sym e, le-leb size (length rest) (omega arith))
+  module _ (part : List ℕ) (h : 3 ≤ length part) (e : size ≡ getD part 1 0 * 256 + getD part 2 0) where
+    short : length part - 3 < size → first part ≡ Refused BadField
+    short s = headed part h e ∙ rw (length-drop, lt-leb size (length part - 3) s)
+
+    held : size ≤ length part - 3 → first part ≡ whole (getD part 0 0) (take size (drop 3 part))
+    held s = headed part h e ∙ rw (length-drop, le-leb size (length part - 3) s)
 
   -- what is lent of the part is as long as the length says
   lent : 3 + size - 3 ≡ size

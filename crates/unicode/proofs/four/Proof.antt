@@ -5,7 +5,7 @@ use mathlib.Core.List.{[], _∷_}
 use Prim.Native.Nat.{ℕ}
 use lib.ListN.{drop}
 use Rattle.unicode.specs.Unicode.{_to_, tail, begins}
-use Rattle.unicode.proofs.Found.{counted}
+use Rattle.unicode.proofs.Leads.{counted}
 use Rattle.unicode.proofs.Parts.{parts}
 use Rattle.unicode.proofs.four.Statement.{statement}
 use Rattle.unicode.proofs.four.Tie as tie
