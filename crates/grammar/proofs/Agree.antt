@@ -2,7 +2,7 @@
 use Prim.Native.Nat.{ℕ, zero, suc}
 use mathlib.Core.Path.{_≡_}
 use mathlib.Core.Logic.{_⊎_, inl, inr}
-use Rattle.grammar.specs.Tree.{Tree}
+use Rattle.grammar.specs.Tree.{Tree, ended}
 use Rattle.grammar.specs.Parsed.{Parsed, refused, read, _>>=_, build, NoRow}
 use Rattle.grammar.proofs.Like.{Like}
 use Rattle.grammar.proofs.Walk.{Kept}
@@ -23,7 +23,7 @@ module _ (Off : ℕ → Type 0) (At : ℕ → ℕ → Type 0) (up : ℕ → ℕ)
   agree-then R S x y f g (both-refuse h) next = both-refuse h
   agree-then R S x y f g (both-read {a} {b} {at} {bt} {n} r h) next = next a b at bt n r h
 
-  agree-build : (t u : Tree) (at bt n : ℕ) → Like At t u → At at bt → Agree Off At up Tree (Like At) (build t at n) (build u bt (up n))
+  agree-build : (t u : Tree) (at bt n : ℕ) → Like At (ended at t) (ended bt u) → At at bt → Agree Off At up Tree (Like At) (build t at n) (build u bt (up n))
   unfolding build
   agree-build t u at bt zero l h = go none
     where

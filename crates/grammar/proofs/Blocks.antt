@@ -25,7 +25,7 @@ use Rattle.grammar.proofs.Runs.{single, listed, row-of, row-list, rec-t
 
 -- What a statement's reader gives: and it reads nothing at EOF.
 abbrev pub Stated : (ts : List ℕ) (at room : ℕ) → Fact Trees
-Stated ts at room us c m = Run ts at room us c m × ¬ (tok ts at ≡ EOF)
+Stated ts at room us c m = Run ts at at room us c m × ¬ (tok ts at ≡ EOF)
 
 module _ (ts : List ℕ) (v : Valid ts) (rules : Rules) (expr : Rec) (expr-runs : (pre at room : ℕ) → at < length ts → Post (Above ts pre at room) (expr pre at room))
     (stmt : Reader Trees) (stmt-runs : (at room : ℕ) → at < length ts → Post (Stated ts at room) (stmt at room))
@@ -47,20 +47,20 @@ module _ (ts : List ℕ) (v : Valid ts) (rules : Rules) (expr : Rec) (expr-runs 
         go (yes lt) = omega (arith, step-on ts c)
         go (no ge) = let e : at ≡ c = omega (arith, q .0 .on) in rw (← e) (goes-forward ts v at h (inl (q .1)))
 
-    pub statements-runs : (close i s n : ℕ) (list : Trees) (at room : ℕ) → Run ts s n list at room → length ts ≤ i + at
-        → Post (Run ts s n) (statements rules ts expr stmt close i list at room)
+    pub statements-runs : (close i s p n : ℕ) (list : Trees) (at room : ℕ) → Run ts s p n list at room → length ts ≤ i + at
+        → Post (Run ts s p n) (statements rules ts expr stmt close i list at room)
     unfolding statements is
-    statements-runs close zero s n list at room r f = absurd (omega (arith, r .within))
-    statements-runs close (suc i) s n list at room r f = post-choose _ _ _ _ _ (λ e. r) (λ e. post-choose _ _ _ _ _
+    statements-runs close zero s p n list at room r f = absurd (omega (arith, r .within))
+    statements-runs close (suc i) s p n list at room r f = post-choose _ _ _ _ _ (λ e. r) (λ e. post-choose _ _ _ _ _
         (λ e′.
         let lt : at < step ts at = goes-forward ts v at (r .within) (inl (λ q. eqb-false SSemiColon EOF refl (sym (eqb-true _ _ e′) ∙ q))) in
-        statements-runs close i s n list (step ts at) room (later ts r (up ts _ _ (up₀ ts at))) (omega arith))
-        (λ e′. post-then _ _ _ _ _ (stmt-runs at room (r .within)) (λ us c m q. statements-runs close i s n (join list us) (step ts c) m
+        statements-runs close i s p n list (step ts at) room (later ts r (up ts _ _ (up₀ ts at))) (omega arith))
+        (λ e′. post-then _ _ _ _ _ (stmt-runs at room (r .within)) (λ us c m q. statements-runs close i s p n (join list us) (step ts c) m
         (later ts (both ts r (up₀ ts at) (q .0)) (up ts _ _ (up₀ ts c))) (omega (arith, stmt-on at room us c m (r .within) q)))))
 
-    statements-then : {A : Type 0} (R : Fact A) (f : Trees × ℕ × ℕ → Parsed A) (close s n : ℕ) (list : Trees) (c at room : ℕ) → Run ts s n list c room → Ahead ts c at
-        → ((all : Trees) (c m : ℕ) → Run ts s n all c m → Post R (f (all, c, m))) → Post R (statements rules ts expr stmt close turns list at room >>= f)
-    statements-then R f close s n list c at room r h k = post-then _ _ R _ f (statements-runs close turns s n list at room (later ts r h) (enough ts v at)) k
+    statements-then : {A : Type 0} (R : Fact A) (f : Trees × ℕ × ℕ → Parsed A) (close s p n : ℕ) (list : Trees) (c at room : ℕ) → Run ts s p n list c room → Ahead ts c at
+        → ((all : Trees) (c m : ℕ) → Run ts s p n all c m → Post R (f (all, c, m))) → Post R (statements rules ts expr stmt close turns list at room >>= f)
+    statements-then R f close s p n list c at room r h k = post-then _ _ R _ f (statements-runs close turns s p n list at room (later ts r h) (enough ts v at)) k
 
     ruleset parts = (post-refused, post-need, post-choose, row-of, row-list, up₀, up, expr-then, exprs-then, stmt-then, statements-then)
 
@@ -72,14 +72,14 @@ module _ (ts : List ℕ) (v : Valid ts) (rules : Rules) (expr : Rec) (expr-runs 
     unfolding block
     block-then A at room = shut-hands ts A (opened rules ts expr stmt) (step ts at) room opened-runs
 
-    else-runs : (at room : ℕ) → at < length ts → Post (Run ts at room) (else rules ts expr stmt at room)
+    else-runs : (at room : ℕ) → at < length ts → Post (Run ts at at room) (else rules ts expr stmt at room)
     unfolding else join
     else-runs at room h = let r = start ts at room h in search (parts, block-then) depth 9
 
     else-then : (A : Type 0) (at room : ℕ) → Hands ts A listed at room (else rules ts expr stmt at room)
     else-then A at room = hands ts A listed at room _ (else-runs at room)
 
-    finally-runs : (at room : ℕ) → at < length ts → Post (Run ts at room) (finally rules ts expr stmt at room)
+    finally-runs : (at room : ℕ) → at < length ts → Post (Run ts at at room) (finally rules ts expr stmt at room)
     unfolding finally join
     finally-runs at room h = let r = start ts at room h in search (parts, block-then) depth 9
 
@@ -152,12 +152,12 @@ module _ (ts : List ℕ) (v : Valid ts) (rules : Rules) (expr : Rec) (expr-runs 
         ▹ begun-runs _ (begun-at ts (function rules ts expr stmt) function-runs) ▹ begun-runs _ for-runs ▹ begun-runs _ throw-runs ▹ begun-runs _ try-runs ▹ begun-runs _ foreach-runs ▹ end)
         plain-runs at room h
 
-    level-runs : (at room : ℕ) → at < length ts → Post (Run ts at room) (level rules ts expr stmt at room)
+    level-runs : (at room : ℕ) → at < length ts → Post (Run ts at at room) (level rules ts expr stmt at room)
     unfolding level
     level-runs at room h = post-choose _ _ _ _ _ (λ e. start ts at room h) (λ e. post-then _ _ _ _ _ (kept-runs at room h) (λ t c m q. q .run))
 
 pub statement-runs : (ts : List ℕ) (v : Valid ts) (rules : Rules) (d at room : ℕ) → at < length ts → Post (Stated ts at room) (statement rules ts d at room)
 unfolding statement
 statement-runs ts v rules zero at room h = refl
-statement-runs ts v rules (suc d) at room h = not-at-eof ts at (Run ts at room) (statement rules ts (suc d) at room)
+statement-runs ts v rules (suc d) at room h = not-at-eof ts at (Run ts at at room) (statement rules ts (suc d) at room)
     (level-runs ts v rules (expression rules ts d) (expression-runs ts v rules d) (statement rules ts d) (statement-runs ts v rules d) at room h) (statement-eof ts at _ refl refl rules (suc d) room)

@@ -9,7 +9,7 @@ use lib.Dec.{eqb, ltb}
 use lib.ListN.{length, List·getD-eq-default}
 use borrow.Author.Tests.{lt-ltb, le-ltb, eqb-false, ne-eqb}
 use Rattle.grammar.specs.Words.{EOF, SSemiColon, SDot, tok, step, is, next-is, class, code, by-code, orders, Zero, order, infix-of, goes-on}
-use Rattle.grammar.specs.Tree.{Tree, size}
+use Rattle.grammar.specs.Tree.{Tree, ended, size}
 use Rattle.grammar.specs.Parsed.{read, _>>=_, _>>_, need, build, choose, match, turns}
 use Rattle.grammar.specs.Rules.{Rules}
 use Rattle.grammar.specs.Expressions.{Rec, get-identifier, dot-expression, prefix-part, level, expression}
@@ -24,8 +24,8 @@ record Valued (w : ℕ) (row : ℕ → Tree) : Type 0 where
   zero-order : order w ≡ Zero
   no-semicolon : eqb w SSemiColon ≡ false
   no-end : eqb w EOF ≡ false
-  one-row : (s : ℕ) → size (row s) ≡ 1
-  reads : (rules : Rules) (ts : List ℕ) (rec : Rec) (s m : ℕ) → tok ts s ≡ w → eqb (tok ts (step ts s)) SDot ≡ false → prefix-part rules ts rec s (suc m) ≡ read (row s) s m
+  one-row : (s : ℕ) → size (ended s (row s)) ≡ 1
+  reads : (rules : Rules) (ts : List ℕ) (rec : Rec) (s m : ℕ) → tok ts s ≡ w → eqb (tok ts (step ts s)) SDot ≡ false → prefix-part rules ts rec s (suc m) ≡ read (ended s (row s)) s m
 
 valued : {w : ℕ} {row : ℕ → Tree} → Value w row → Valued w row
 unfolding order by-code orders class code prefix-part match choose build dot-expression get-identifier need _>>_ _>>=_ is next-is
@@ -76,26 +76,26 @@ module _ (rules : Rules) (ts : List ℕ) where
   -- A value is an operand: where an operator or an end follows, and where a semicolon does.
   module _ (s : ℕ) (row : ℕ → Tree) (v : Valued (tok ts s) row) where
     value-operand : eqb (tok ts (step ts s)) SDot ≡ false → eqb (tok ts (step ts s)) SSemiColon ≡ false → goes-on DivMulMod (tok ts (step ts s)) ≡ false
-        → expression rules ts 1 DivMulMod s (size (row s)) ≡ read (row s) s 0
+        → expression rules ts 1 DivMulMod s (size (ended s (row s))) ≡ read (ended s (row s)) s 0
     unfolding expression level next-is is choose _>>=_
     value-operand dot semi stop =
-        rw (v .one-row s, v .reads rules ts (expression rules ts 0) s 0 refl dot, semi, some-turns) (stopped rules ts (expression rules ts 0) DivMulMod (turns - 1) (row s) s 0 stop)
+        rw (v .one-row s, v .reads rules ts (expression rules ts 0) s 0 refl dot, semi, some-turns) (stopped rules ts (expression rules ts 0) DivMulMod (turns - 1) (ended s (row s)) s 0 stop)
 
-    value-semicolon : tok ts (step ts s) ≡ SSemiColon → expression rules ts 1 DivMulMod s (size (row s)) ≡ read (row s) (step ts s) 0
+    value-semicolon : tok ts (step ts s) ≡ SSemiColon → expression rules ts 1 DivMulMod s (size (ended s (row s))) ≡ read (ended s (row s)) (step ts s) 0
     unfolding expression level next-is is choose _>>=_
     value-semicolon semi = rw (v .one-row s, v .reads rules ts (expression rules ts 0) s 0 refl (rw semi), semi)
 
   -- Behind the last value: where the reader stands, and that the loop stops there.
   record Last (s c : ℕ) (row : ℕ → Tree) : Type 0 where
-    last : expression rules ts 1 DivMulMod s (size (row s)) ≡ read (row s) c 0
+    last : expression rules ts 1 DivMulMod s (size (ended s (row s))) ≡ read (ended s (row s)) c 0
     stops : goes-on Zero (tok ts (step ts c)) ≡ false
 
-  ended : (s c : ℕ) (row : ℕ → Tree) → Valued (tok ts s) row → Ended ts s c → Last s c row
-  ended s c row v (plainly z n dot) =
+  at-end : (s c : ℕ) (row : ℕ → Tree) → Valued (tok ts s) row → Ended ts s c → Last s c row
+  at-end s c row v (plainly z n dot) =
       let z′ : order (tok ts (step ts s)) ≡ Zero = next (λ w. order w ≡ Zero) s (v .zero-order) z in
       let n′ : eqb (tok ts (step ts s)) SSemiColon ≡ false = next (λ w. eqb w SSemiColon ≡ false) s (v .no-semicolon) (ne-eqb _ SSemiColon n) in
       record { last = value-operand s row v (zero-dot _ z′) n′ (zero-stops DivMulMod _ z′); stops = zero-stops Zero _ z′ }
-  ended s c row v (by-semicolons i h z n) =
+  at-end s c row v (by-semicolons i h z n) =
       let here : s + 1 + 0 ≡ s + 1 = omega arith in
       let first : tok ts (s + 1) ≡ SSemiColon = rw here at (h 0 (omega arith)) in
       let on : step ts s ≡ s + 1 = steps s (inside (s + 1) (λ q. let e : EOF ≡ SSemiColon = sym q ∙ first in omega arith)) in
@@ -118,7 +118,7 @@ module _ (rules : Rules) (ts : List ℕ) where
       → Operands rules ts 1 s c parts × (goes-on Zero (tok ts (step ts c)) ≡ false)
   chain-operands {s} e c (one {row} v) q h =
       let here : e ≡ s = omega arith in
-      let l = ended s c row (valued v) (rw here at h) in
+      let l = at-end s c row (valued v) (rw here at h) in
       (final (l .last), l .stops)
   chain-operands {s} e c (more {mark} {row} {parts} v i r) q h =
       let x = chain-operands e c r (omega arith) h in

@@ -35,5 +35,5 @@ module _ {up : ℕ → ℕ} {Rel : Relation} {P Q : Rules} {ts : List ℕ} (besi
         on-check _ _ _ _ (on-check _ _ _ _ (as-list _ _ (exprs Zero start start room refl))),
         on-check _ _ _ _ (on-check _ _ _ _ (stmts start start room refl)),
         on-check _ _ _ _ (beside .kept .going-on _ _ _ _ _ _ (script 0 0 room refl) (λ list more at bt n r p.
-            as-list _ _ (beside .kept .building _ _ at bt n (nodes refl r nils nils nils) p))),
+            as-list _ _ (beside .kept .building _ _ at bt n (nodes refl r nils nils nils p) p))),
       )

@@ -20,24 +20,24 @@ use Rattle.grammar.proofs.Runs.{Run, start, up₀, row-list, expression
 use Rattle.grammar.proofs.Blocks.{statements-runs, statement-runs}
 
 module _ (rules : Rules) (ts : List ℕ) (at room : ℕ) where
-  pub expression-entry : Post (Run ts at room) (one-expression rules ts at room)
+  pub expression-entry : Post (Run ts at at room) (one-expression rules ts at room)
   unfolding one-expression
   expression-entry = post-entry _ refl ts _ _ (λ v. post-need _ _ _ _ _ _ refl (λ e.
       post-then _ _ _ _ _ (expression-runs ts v rules nesting Zero at room (ltb-true at (length ts) e)) (λ t c m h. h .run)))
 
-  pub statement-entry : Post (Run ts at room) (one-statement rules ts at room)
+  pub statement-entry : Post (Run ts at at room) (one-statement rules ts at room)
   unfolding one-statement
   statement-entry = post-entry _ refl ts _ _ (λ v. post-need _ _ _ _ _ _ refl (λ e.
       post-map _ _ _ (statement rules ts nesting at room) (statement-runs ts v rules nesting at room (ltb-true at (length ts) e)) (λ us c m h. h .0)))
 
-pub script-entry : (rules : Rules) (ts : List ℕ) (room : ℕ) → Post (Run ts 0 room) (whole-script rules ts room)
+pub script-entry : (rules : Rules) (ts : List ℕ) (room : ℕ) → Post (Run ts 0 0 room) (whole-script rules ts room)
 unfolding whole-script join
 script-entry rules ts room = post-entry _ refl ts _ _ (λ v. post-then _ _ _ _ _
-    (statements-runs ts v rules (expression rules ts nesting) (expression-runs ts v rules nesting) (statement rules ts nesting) (statement-runs ts v rules nesting) EOF turns 0 room nil 0 room
+    (statements-runs ts v rules (expression rules ts nesting) (expression-runs ts v rules nesting) (statement rules ts nesting) (statement-runs ts v rules nesting) EOF turns 0 0 room nil 0 room
     (start ts 0 room (v .some)) (enough ts v 0))
-    (λ list c m r. post-then _ _ _ _ _ (row-list ts 46 0 0 c list nil nil nil r (up₀ ts c) refl refl) (λ t c m h. h .run)))
+    (λ list c m r. post-then _ _ _ _ _ (row-list ts 46 0 c list nil nil nil r (up₀ ts c) refl refl) (λ t c m h. h .run)))
 
-of-entries : OfEntries (λ ts start room us at left. Run ts start room us at left)
+pub of-entries : OfEntries (λ ts start room us at left. Run ts start start room us at left)
 of-entries rules ts start room us at left =
     (λ e. rw e at (expression-entry rules ts start room), λ e. rw e at (statement-entry rules ts start room), λ e. rw e at (script-entry rules ts room))
 

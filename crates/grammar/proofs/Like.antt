@@ -1,15 +1,15 @@
--- Trees that are the same but for their places, which correspond.
+-- Trees that are the same but for their places and ends, which correspond.
 use Prim.Native.Nat.{ℕ}
 use mathlib.Core.Path.{_≡_, refl}
 use Rattle.grammar.specs.Tree.{Tree, infixed, node, Trees, nil, _▸_, join, flagged, is-call}
 
 infixr 50 _▸▸_
 mutual
-  -- Two trees that are the same but for their places, which correspond.
+  -- Two trees that are the same but for their places and ends, which correspond.
   pub data Like (At : ℕ → ℕ → Type 0) : Tree → Tree → Type 0 where
-    infixes : {m p q : ℕ} {l r l′ r′ : Tree} → At p q → Like At l l′ → Like At r r′ → Like At (infixed m p l r) (infixed m q l′ r′)
-    nodes : {k m p q : ℕ} {a b c d a′ b′ c′ d′ : Trees} → At p q → Likes At a a′ → Likes At b b′ → Likes At c c′ → Likes At d d′
-        → Like At (node k m p a b c d) (node k m q a′ b′ c′ d′)
+    infixes : {m p q y z : ℕ} {l r l′ r′ : Tree} → At p q → Like At l l′ → Like At r r′ → At y z → Like At (infixed m p l r y) (infixed m q l′ r′ z)
+    nodes : {k m p q y z : ℕ} {a b c d a′ b′ c′ d′ : Trees} → At p q → Likes At a a′ → Likes At b b′ → Likes At c c′ → Likes At d d′ → At y z
+        → Like At (node k m p a b c d y) (node k m q a′ b′ c′ d′ z)
 
   -- The same of the trees of two slots.
   pub data Likes (At : ℕ → ℕ → Type 0) : Trees → Trees → Type 0 where
@@ -27,19 +27,19 @@ module _ {At : ℕ → ℕ → Type 0} where
 
   pub flag-like : (f : ℕ) {t u : Tree} → Like At t u → Like At (flagged f t) (flagged f u)
   unfolding flagged
-  flag-like f (infixes p l r) = infixes p l r
-  flag-like f (nodes p a b c d) = nodes p a b c d
+  flag-like f (infixes p l r z) = infixes p l r z
+  flag-like f (nodes p a b c d z) = nodes p a b c d z
 
   pub call-like : {t u : Tree} → Like At t u → is-call t ≡ is-call u
   unfolding is-call
-  call-like (infixes p l r) = refl
-  call-like (nodes p a b c d) = refl
+  call-like (infixes p l r z) = refl
+  call-like (nodes p a b c d z) = refl
 
 -- Where the places are the same too, so are the trees.
 mutual
   pub one-tree : (t u : Tree) → Like _≡_ t u → t ≡ u
-  one-tree t u (infixes p l r) = rw (p, one-tree _ _ l, one-tree _ _ r)
-  one-tree t u (nodes p a b c d) = rw (p, one-list _ _ a, one-list _ _ b, one-list _ _ c, one-list _ _ d)
+  one-tree t u (infixes p l r z) = rw (p, one-tree _ _ l, one-tree _ _ r, z)
+  one-tree t u (nodes p a b c d z) = rw (p, one-list _ _ a, one-list _ _ b, one-list _ _ c, one-list _ _ d, z)
 
   pub one-list : (ts us : Trees) → Likes _≡_ ts us → ts ≡ us
   one-list ts us nils = refl

@@ -17,8 +17,8 @@ use Rattle.grammar.specs.Rules.{Rules}
 use Rattle.grammar.specs.Expressions.{Rec, infix-expression, operation, climb, level, expression}
 use Rattle.grammar.specs.Script.{nesting, array-good, one-expression}
 use Rattle.grammar.specs.Claims.{Grouping, GroupsOperands, Binds, EveryOf, KeepsBut, Keeps, Part, operand, sign, reading, Joins, DivMulMod}
-use Rattle.grammar.specs.Claims.{Operands, final, further, rows-of}
-use Rattle.grammar.proofs.Steps.{step-on, others, no-infix, infix-goes-on, infix-facts, goes-on-up}
+use Rattle.grammar.specs.Claims.{Operands, final, further, rows-of, Joined, same, joint, Ends}
+use Rattle.grammar.proofs.Steps.{step-on, step-most, others, no-infix, infix-goes-on, infix-facts, goes-on-up}
 use Rattle.grammar.proofs.Turns.{Valid, valid, goes-forward}
 use Rattle.grammar.proofs.Runs.{expression-runs, placed}
 use Rattle.grammar.proofs.More.{nesting-more}
@@ -26,63 +26,63 @@ use Rattle.grammar.proofs.Prefix.{Begins, level-begins}
 
 -- A tree that is an operand: no infix row, or one in brackets.
 abbrev Whole : Tree → Type 0
-Whole (infixed m p l r) = 256 ≤ m
-Whole (node k m p a b c d) = Unit {0}
+Whole (infixed m p l r z) = 256 ≤ m
+Whole (node k m p a b c d z) = Unit {0}
 
 module _ (ts : List ℕ) where
   above-all : (t : Tree) → Binds ts (suc DivMulMod) t → EveryOf (KeepsBut ts) (t ▸ nil) → Whole t
-  above-all (infixed m p l r) b k = go (decLt m 256)
+  above-all (infixed m p l r z) b k = go (decLt m 256)
     where
       go : Dec (m < 256) → 256 ≤ m
       go (yes lt) = let i : 0 < infix-of (tok ts p) = omega (arith, k .0 .0 .sign) in absurd (omega (arith, b lt, infix-facts _ i .most))
       go (no ge) = omega arith
-  above-all (node k m p c0 c1 c2 c3) b h = tt
+  above-all (node k m p c0 c1 c2 c3 z) b h = tt
 
   binds-whole : (t : Tree) → Whole t → (n : ℕ) → Binds ts n t
-  binds-whole (infixed m p l r) w n = λ lt. absurd (omega arith)
-  binds-whole (node k m p c0 c1 c2 c3) w n = tt
+  binds-whole (infixed m p l r z) w n = λ lt. absurd (omega arith)
+  binds-whole (node k m p c0 c1 c2 c3 z) w n = tt
 
   joins-whole : (t : Tree) → Whole t → Joins (Keeps ts) t
-  joins-whole (infixed m p l r) w = λ lt. absurd (omega arith)
-  joins-whole (node k m p c0 c1 c2 c3) w = tt
+  joins-whole (infixed m p l r z) w = λ lt. absurd (omega arith)
+  joins-whole (node k m p c0 c1 c2 c3 z) w = tt
 
 whole : (rules : Rules) (ts : List ℕ) (v : Valid ts) (d s n : ℕ) (t : Tree) (c m : ℕ) → expression rules ts d DivMulMod s n ≡ read t c m → Whole t
 whole rules ts v d s n t c m e = let a = placed ts v rules d DivMulMod s n t c m e in above-all ts t (a .2 .root) (a .2 .run .kept)
 
 -- The reading of a tree in front of other parts.
 abbrev onto : Tree → List Part → List Part
-onto (infixed m p l r) ws = cond (ltb m 256) (onto l (sign m p ∷ onto r ws)) (operand (infixed m p l r) ∷ ws)
-onto (node k m p c0 c1 c2 c3) ws = operand (node k m p c0 c1 c2 c3) ∷ ws
+onto (infixed m p l r z) ws = cond (ltb m 256) (onto l (sign m p ∷ onto r ws)) (operand (infixed m p l r z) ∷ ws)
+onto (node k m p c0 c1 c2 c3 z) ws = operand (node k m p c0 c1 c2 c3 z) ∷ ws
 
 onto-whole : (t : Tree) (ws : List Part) → Whole t → onto t ws ≡ operand t ∷ ws
-onto-whole (infixed m p l r) ws w = rw (le-ltb m 256 w)
-onto-whole (node k m p c0 c1 c2 c3) ws w = refl
+onto-whole (infixed m p l r z) ws w = rw (le-ltb m 256 w)
+onto-whole (node k m p c0 c1 c2 c3 z) ws w = refl
 
 reading-onto : (t : Tree) (ws : List Part) → reading t ++ ws ≡ onto t ws
 unfolding reading
-reading-onto (infixed m p l r) ws = go (ltb m 256) (rw append-assoc (rw (reading-onto r ws) (reading-onto l (sign m p ∷ onto r ws))))
+reading-onto (infixed m p l r z) ws = go (ltb m 256) (rw append-assoc (rw (reading-onto r ws) (reading-onto l (sign m p ∷ onto r ws))))
   where
     go : (b : Bool) → (reading l ++ (sign m p ∷ reading r)) ++ ws ≡ onto l (sign m p ∷ onto r ws)
-        → cond b (reading l ++ (sign m p ∷ reading r)) (operand (infixed m p l r) ∷ []) ++ ws ≡ cond b (onto l (sign m p ∷ onto r ws)) (operand (infixed m p l r) ∷ ws)
+        → cond b (reading l ++ (sign m p ∷ reading r)) (operand (infixed m p l r z) ∷ []) ++ ws ≡ cond b (onto l (sign m p ∷ onto r ws)) (operand (infixed m p l r z) ∷ ws)
     go true h = h
     go false h = refl
-reading-onto (node k m p c0 c1 c2 c3) ws = refl
+reading-onto (node k m p c0 c1 c2 c3 z) ws = refl
 
 rows-onto : (t : Tree) (ws : List Part) → rows-of (onto t ws) ≡ size t + rows-of ws
 unfolding rows-of
-rows-onto (infixed m p l r) ws = go (ltb m 256) (rows-onto l (sign m p ∷ onto r ws)) (rows-onto r ws)
+rows-onto (infixed m p l r z) ws = go (ltb m 256) (rows-onto l (sign m p ∷ onto r ws)) (rows-onto r ws)
   where
     go : (b : Bool) → rows-of (onto l (sign m p ∷ onto r ws)) ≡ size l + suc (rows-of (onto r ws)) → rows-of (onto r ws) ≡ size r + rows-of ws
-        → rows-of (cond b (onto l (sign m p ∷ onto r ws)) (operand (infixed m p l r) ∷ ws)) ≡ size l + size r + 1 + rows-of ws
+        → rows-of (cond b (onto l (sign m p ∷ onto r ws)) (operand (infixed m p l r z) ∷ ws)) ≡ size l + size r + 1 + rows-of ws
     go true h k = omega arith
     go false h k = refl
-rows-onto (node k m p c0 c1 c2 c3) ws = refl
+rows-onto (node k m p c0 c1 c2 c3 z) ws = refl
 
 -- t stands in ts from s on, and the reader stands at e behind it; it keeps the rule, and its order is at least lo.
 data Good (rules : Rules) (ts : List ℕ) (d : ℕ) : ℕ → Tree → ℕ → ℕ → Type 0 where
   g-one : {lo s e : ℕ} {t : Tree} → expression rules ts d DivMulMod s (size t) ≡ read t e 0 → Good rules ts d lo t s e
   g-two : {lo mark s c p e : ℕ} {l r : Tree} → Good rules ts d (order (tok ts p)) l s c → ¬ (tok ts c ≡ SSemiColon) → step ts c ≡ p → infix-of (tok ts p) ≡ suc mark
-      → lo ≤ order (tok ts p) → Good rules ts d (suc (order (tok ts p))) r (step ts p) e → Good rules ts d lo (infixed mark p l r) s e
+      → lo ≤ order (tok ts p) → Good rules ts d (suc (order (tok ts p))) r (step ts p) e → Good rules ts d lo (infixed mark p l r e) s e
 
 module _ {rules : Rules} {ts : List ℕ} {d : ℕ} where
   raise : {lo s e : ℕ} {t : Tree} → Good rules ts d lo t s e → Good rules ts d 1 t s e
@@ -108,7 +108,7 @@ self ts c {p} q i =
 module _ (rules : Rules) (ts : List ℕ) (rec : Rec) (pre : ℕ) where
   turned : (turn : ℕ) (l r : Tree) (c p room mark e left : ℕ) → step ts c ≡ p → infix-of (tok ts p) ≡ suc mark → pre < order (tok ts p)
       → rec (order (tok ts p)) (step ts p) room ≡ read r e (suc left)
-      → climb rules ts rec pre (suc turn) l c room ≡ climb rules ts rec pre turn (infixed mark p l r) e left
+      → climb rules ts rec pre (suc turn) l c room ≡ climb rules ts rec pre turn (infixed mark p l r e) e left
   unfolding climb choose _>>=_ operation match infix-expression build
   turned turn l r c p room mark e left q i lt x =
       let w : ℕ = tok ts p in
@@ -154,6 +154,18 @@ module _ (rules : Rules) (ts : List ℕ) (v : Valid ts) (d : ℕ) where
       let lt : c < step ts c = goes-forward ts v c (good-placed gl .end) (inr (λ z. omega (arith, others .eof, ap infix-of (ap (tok ts) (sym q) ∙ z)))) in
       (omega (arith, y .on, step-on ts p), y .end)
 
+  -- Where its infix rows end.
+  ends-whole : (t : Tree) → Whole t → (n : ℕ) → Ends n t
+  ends-whole (infixed m p l r z) w n = λ lt. absurd (omega arith)
+  ends-whole (node k m p c0 c1 c2 c3 z) w n = tt
+
+  ends-good : {lo s e : ℕ} {t : Tree} → Good rules ts d lo t s e → Ends e t
+  ends-good {s} {e} {t} (g-one x) = ends-whole t (whole rules ts v d s (size t) t e 0 x) e
+  ends-good (g-two {c} {p} l n q i a r) =
+      let lt : c < step ts c = goes-forward ts v c (good-placed l .end) (inr (λ z. omega (arith, others .eof, ap infix-of (ap (tok ts) (sym q) ∙ z)))) in
+      let before : c ≡ p - 1 = omega (arith, step-most ts c) in
+      λ lt. (refl, rw before at (ends-good l), ends-good r)
+
 -- An operand, read above a lower order with more nesting and more rows.
 operand-begins : (rules : Rules) (ts : List ℕ) (v : Valid ts) (d D pre s left e : ℕ) (t : Tree) → pre ≤ DivMulMod → d ≤ suc D
     → expression rules ts d DivMulMod s (size t) ≡ read t e 0
@@ -187,7 +199,7 @@ module _ (rules : Rules) (ts : List ℕ) (v : Valid ts) (d D pre : ℕ) (small :
     ran-two : {lo s c p e mark : ℕ} {l r : Tree} (room left : ℕ) → Good rules ts d lo l s c → Ran rules ts (expression rules ts D) pre s room l c (size r + suc left)
         → step ts c ≡ p
         → infix-of (tok ts p) ≡ suc mark → pre < order (tok ts p) → Good rules ts d (suc (order (tok ts p))) r (step ts p) e
-        → goes-on (order (tok ts p)) (tok ts (step ts e)) ≡ false → Ran rules ts (expression rules ts D) pre s room (infixed mark p l r) e left
+        → goes-on (order (tok ts p)) (tok ts (step ts e)) ≡ false → Ran rules ts (expression rules ts D) pre s room (infixed mark p l r e) e left
     ran-two {c} {p} {e} {mark} {l} {r} room left gl x q i lt gr low =
         let top : order (tok ts p) ≤ DivMulMod = infix-facts (tok ts p) (omega arith) .most in
         let (on, end) = left-of rules ts v d gl q i gr in
@@ -214,7 +226,7 @@ module _ (rules : Rules) (ts : List ℕ) (v : Valid ts) (d D pre : ℕ) (small :
         let le : pre ≤ order (tok ts p) = omega arith in
         let x = ran-two room left gl (run gl (omega arith) n (self ts c q i) room (size r + suc left) (omega arith)) q i (omega arith) gr
         (goes-on-up pre (order (tok ts p)) (tok ts (step ts e)) le low) in
-        x .same ∙ stopped rules ts (expression rules ts D) pre (x .turn) (infixed mark p l r) e left low
+        x .same ∙ stopped rules ts (expression rules ts D) pre (x .turn) (infixed mark p l r e) e left low
 
 parses : (rules : Rules) (ts : List ℕ) (v : Valid ts) (d D pre : ℕ) {lo s e : ℕ} {t : Tree} → Good rules ts d lo t s e → pre < lo → 9 + d ≤ D + pre → pre ≤ DivMulMod
     → goes-on pre (tok ts (step ts e)) ≡ false → (room left : ℕ) → room ≡ size t + left → expression rules ts D pre s room ≡ read t e left
@@ -234,27 +246,27 @@ record Front (rules : Rules) (ts : List ℕ) (d lo mark p s e : ℕ) (u t : Tree
 small-mark : (w mark : ℕ) → infix-of w ≡ suc mark → mark < 256
 small-mark w mark i = omega (arith, infix-facts w (omega arith) .mark)
 
-onto-two : (w mark p : ℕ) (l r : Tree) (ws : List Part) → infix-of w ≡ suc mark → onto (infixed mark p l r) ws ≡ onto l (sign mark p ∷ onto r ws)
-onto-two w mark p l r ws i = rw (lt-ltb mark 256 (small-mark w mark i))
+onto-two : (w mark p z : ℕ) (l r : Tree) (ws : List Part) → infix-of w ≡ suc mark → onto (infixed mark p l r z) ws ≡ onto l (sign mark p ∷ onto r ws)
+onto-two w mark p z l r ws i = rw (lt-ltb mark 256 (small-mark w mark i))
 
 module _ (rules : Rules) (ts : List ℕ) (valid : Valid ts) (d mark s c p : ℕ) (u : Tree) (v : expression rules ts d DivMulMod s (size u) ≡ read u c 0) (n : ¬ (tok ts c ≡ SSemiColon))
     (q : step ts c ≡ p) (i : infix-of (tok ts p) ≡ suc mark)
   where
     hang : (lo e : ℕ) (t : Tree) → lo ≤ order (tok ts p) → Good rules ts d (suc (order (tok ts p))) t (step ts p) e → Front rules ts d lo mark p s e u t
     hang lo e t a g = record {
-      tree = infixed mark p u t;
+      tree = infixed mark p u t e;
       good = g-two (g-one v) n q i a g;
-      reads = λ ws. onto-two (tok ts p) mark p u t ws i ∙ onto-whole u (sign mark p ∷ onto t ws) (whole rules ts valid d s (size u) u c 0 v);
+      reads = λ ws. onto-two (tok ts p) mark p e u t ws i ∙ onto-whole u (sign mark p ∷ onto t ws) (whole rules ts valid d s (size u) u c 0 v);
     }
 
     under : {lo mark′ c′ p′ e : ℕ} {l r : Tree} → Front rules ts d (order (tok ts p′)) mark p s c′ u l → ¬ (tok ts c′ ≡ SSemiColon) → step ts c′ ≡ p′
         → infix-of (tok ts p′) ≡ suc mark′
-        → lo ≤ order (tok ts p′) → Good rules ts d (suc (order (tok ts p′))) r (step ts p′) e → Front rules ts d lo mark p s e u (infixed mark′ p′ l r)
-    under {mark′} {p′} {l} {r} f n′ q′ i′ a g = record {
-      tree = infixed mark′ p′ (f .tree) r;
+        → lo ≤ order (tok ts p′) → Good rules ts d (suc (order (tok ts p′))) r (step ts p′) e → Front rules ts d lo mark p s e u (infixed mark′ p′ l r e)
+    under {mark′} {p′} {e} {l} {r} f n′ q′ i′ a g = record {
+      tree = infixed mark′ p′ (f .tree) r e;
       good = g-two (f .good) n′ q′ i′ a g;
-      reads = λ ws. onto-two (tok ts p′) mark′ p′ (f .tree) r ws i′ ∙ f .reads (sign mark′ p′ ∷ onto r ws)
-          ∙ ap (λ (ps : List Part). operand u ∷ sign mark p ∷ ps) (sym (onto-two (tok ts p′) mark′ p′ l r ws i′));
+      reads = λ ws. onto-two (tok ts p′) mark′ p′ e (f .tree) r ws i′ ∙ f .reads (sign mark′ p′ ∷ onto r ws)
+          ∙ ap (λ (ps : List Part). operand u ∷ sign mark p ∷ ps) (sym (onto-two (tok ts p′) mark′ p′ e l r ws i′));
     }
 
     front : {lo₀ e : ℕ} {t : Tree} (lo : ℕ) → Good rules ts d lo₀ t (step ts p) e → lo ≤ lo₀ → lo ≤ order (tok ts p) → Front rules ts d lo mark p s e u t
@@ -263,8 +275,8 @@ module _ (rules : Rules) (ts : List ℕ) (valid : Valid ts) (d mark s c p : ℕ)
         choice (decLt (order (tok ts p)) (order (tok ts p′))) (λ h. front (order (tok ts p′)) gl (omega arith) h)
       where
         choice : Dec (order (tok ts p) < order (tok ts p′)) → (order (tok ts p′) ≤ order (tok ts p) → Front rules ts d (order (tok ts p′)) mark p s c′ u l)
-            → Front rules ts d lo mark p s e u (infixed mark′ p′ l r)
-        choice (yes lt) f = hang lo e (infixed mark′ p′ l r) a′ (g-two gl n′ q′ i′ lt gr)
+            → Front rules ts d lo mark p s e u (infixed mark′ p′ l r e)
+        choice (yes lt) f = hang lo e (infixed mark′ p′ l r e) a′ (g-two gl n′ q′ i′ lt gr)
         choice (no ge) f =
             let h : order (tok ts p′) ≤ order (tok ts p) = omega arith in
             let a₁ : lo ≤ order (tok ts p′) = omega arith in
@@ -290,7 +302,9 @@ data Rest (rules : Rules) (ts : List ℕ) (d : ℕ) : ℕ → ℕ → List Part 
 
 record Split (rules : Rules) (ts : List ℕ) (d lo : ℕ) (t : Tree) (s e : ℕ) (ws : List Part) : Type 0 where
   end : ℕ
-  good : Good rules ts d lo t s end
+  tree : Tree
+  joined : Joined t tree
+  good : Good rules ts d lo tree s end
   rest : Rest rules ts d end e ws
 
 split-one : {rules : Rules} {ts : List ℕ} {d s e : ℕ} {vs : List Part} (lo : ℕ) (t : Tree) (ws : List Part) → Operands rules ts d s e vs → operand t ∷ ws ≡ vs
@@ -298,19 +312,19 @@ split-one : {rules : Rules} {ts : List ℕ} {d s e : ℕ} {vs : List Part} (lo :
 split-one {e} lo t ws (final {t = t′} v) h =
     let et : t ≡ t′ = cc in
     let ew : ws ≡ [] = cc in
-    record { end = e; good = rw et (g-one v); rest = rw ew no-more }
+    record { end = e; tree = t; joined = same; good = rw et (g-one v); rest = rw ew no-more }
 split-one lo t ws (further {c} {p} {mark} {t = t′} {parts} v n q i o) h =
     let et : t ≡ t′ = cc in
     let ew : ws ≡ sign mark p ∷ parts = cc in
-    record { end = c; good = rw et (g-one v); rest = rw ew (some-more n q i o) }
+    record { end = c; tree = t; joined = same; good = rw et (g-one v); rest = rw ew (some-more n q i o) }
 
-module _ (rules : Rules) (ts : List ℕ) (d lo m p : ℕ) (l r : Tree) (s e : ℕ) (ws : List Part) (a : lo ≤ order (tok ts p))
+module _ (rules : Rules) (ts : List ℕ) (d lo m p : ℕ) (l r : Tree) (z s e : ℕ) (ws : List Part) (small : m < 256) (a : lo ≤ order (tok ts p))
     (right : (s′ : ℕ) (vs : List Part) → Operands rules ts d s′ e vs → onto r ws ≡ vs → Split rules ts d (suc (order (tok ts p))) r s′ e ws)
   where
-    split-two : {c : ℕ} {vs : List Part} → Good rules ts d (order (tok ts p)) l s c → Rest rules ts d c e vs → sign m p ∷ onto r ws ≡ vs
-        → Split rules ts d lo (infixed m p l r) s e ws
-    split-two gl no-more h = let z : _≡_ {A = ℕ} 0 1 = cc in absurd (omega arith)
-    split-two {c} gl (some-more {p = p′} {mark} {ws = vs} n q i o) h =
+    split-two : {c : ℕ} {vs : List Part} {l′ : Tree} → Joined l l′ → Good rules ts d (order (tok ts p)) l′ s c → Rest rules ts d c e vs → sign m p ∷ onto r ws ≡ vs
+        → Split rules ts d lo (infixed m p l r z) s e ws
+    split-two jl gl no-more h = let z : _≡_ {A = ℕ} 0 1 = cc in absurd (omega arith)
+    split-two {c} jl gl (some-more {p = p′} {mark} {ws = vs} n q i o) h =
         let em : m ≡ mark = cc in
         let ep : p ≡ p′ = cc in
         let er : onto r ws ≡ vs = cc in
@@ -318,36 +332,57 @@ module _ (rules : Rules) (ts : List ℕ) (d lo m p : ℕ) (l r : Tree) (s e : �
         let x = right (step ts p) vs o′ er in
         let q′ : step ts c ≡ p = cc in
         let i′ : infix-of (tok ts p) ≡ suc m = cc in
-        record { end = x .end; good = g-two gl n q′ i′ a (x .good); rest = x .rest }
+        record { end = x .end; tree = infixed m p _ (x .tree) (x .end); joined = joint small jl (x .joined); good = g-two gl n q′ i′ a (x .good); rest = x .rest }
 
 split : (rules : Rules) (ts : List ℕ) (d lo : ℕ) (t : Tree) (s e : ℕ) (vs ws : List Part) → Joins (Keeps ts) t → Binds ts lo t → Operands rules ts d s e vs → onto t ws ≡ vs
     → Split rules ts d lo t s e ws
-split rules ts d lo (node k m p c0 c1 c2 c3) s e vs ws j b o q = split-one lo _ ws o q
-split rules ts d lo (infixed m p l r) s e vs ws j b o q =
+split rules ts d lo (node k m p c0 c1 c2 c3 z) s e vs ws j b o q = split-one lo _ ws o q
+split rules ts d lo (infixed m p l r z) s e vs ws j b o q =
     go (ltb m 256) refl q
     (λ lt h. split rules ts d (order (tok ts p)) l s e vs (sign m p ∷ onto r ws) (j lt .1) (j lt .0 .0) o h)
     (λ lt s′ us o′ h. split rules ts d (suc (order (tok ts p))) r s′ e us ws (j lt .2) (j lt .0 .1) o′ h)
   where
-    go : (t : Bool) → ltb m 256 ≡ t → cond t (onto l (sign m p ∷ onto r ws)) (operand (infixed m p l r) ∷ ws) ≡ vs
+    go : (t : Bool) → ltb m 256 ≡ t → cond t (onto l (sign m p ∷ onto r ws)) (operand (infixed m p l r z) ∷ ws) ≡ vs
         → (m < 256 → onto l (sign m p ∷ onto r ws) ≡ vs → Split rules ts d (order (tok ts p)) l s e (sign m p ∷ onto r ws))
         → (m < 256 → (s′ : ℕ) (us : List Part) → Operands rules ts d s′ e us → onto r ws ≡ us → Split rules ts d (suc (order (tok ts p))) r s′ e ws)
-        → Split rules ts d lo (infixed m p l r) s e ws
+        → Split rules ts d lo (infixed m p l r z) s e ws
     go true h q left right =
         let lt : m < 256 = ltb-true m 256 h in
         let x = left lt q in
-        split-two rules ts d lo m p l r s e ws (b lt) (right lt) (x .good) (x .rest) refl
-    go false h q left right = split-one lo (infixed m p l r) ws o q
+        split-two rules ts d lo m p l r z s e ws lt (b lt) (right lt) (x .joined) (x .good) (x .rest) refl
+    go false h q left right = split-one lo (infixed m p l r z) ws o q
 
 binds-any : (ts : List ℕ) (t : Tree) → Binds ts 0 t
-binds-any ts (infixed m p l r) = λ lt. omega arith
-binds-any ts (node k m p c0 c1 c2 c3) = tt
+binds-any ts (infixed m p l r z) = λ lt. omega arith
+binds-any ts (node k m p c0 c1 c2 c3 z) = tt
 
 at-end : {rules : Rules} {ts : List ℕ} {d c e : ℕ} {ws : List Part} → Rest rules ts d c e ws → ws ≡ [] → c ≡ e
 at-end no-more h = refl
 at-end (some-more n q i o) h = cc
 
-stands : (rules : Rules) (ts : List ℕ) (d : ℕ) (t : Tree) (s e : ℕ) (ws : List Part) → Joins (Keeps ts) t → onto t [] ≡ ws → Operands rules ts d s e ws → Good rules ts d 1 t s e
-stands rules ts d t s e ws j q o = let x = split rules ts d 0 t s e ws [] j (binds-any ts t) o q in rw (at-end (x .rest) refl) at (raise (x .good))
+-- The tree of that reading that stands there.
+record Standing (rules : Rules) (ts : List ℕ) (d : ℕ) (t : Tree) (s e : ℕ) (ws : List Part) : Type 0 where
+  tree : Tree
+  joined : Joined t tree
+  good : Good rules ts d 1 tree s e
+  reads : onto tree [] ≡ ws
+
+onto-joined : {t u : Tree} (ws : List Part) → Joined t u → onto t ws ≡ onto u ws
+onto-joined ws same = refl
+onto-joined ws (joint {m} {p} {r′} lt hl hr) = rw (lt-ltb m 256 lt, onto-joined ws hr) (onto-joined (sign m p ∷ onto r′ ws) hl)
+
+stands : (rules : Rules) (ts : List ℕ) (d : ℕ) (t : Tree) (s e : ℕ) (ws : List Part) → Joins (Keeps ts) t → onto t [] ≡ ws → Operands rules ts d s e ws → Standing rules ts d t s e ws
+stands rules ts d t s e ws j q o =
+    let x = split rules ts d 0 t s e ws [] j (binds-any ts t) o q in
+    record { tree = x .tree; joined = x .joined; good = rw (at-end (x .rest) refl) at (raise (x .good)); reads = sym (onto-joined [] (x .joined)) ∙ q }
+
+-- Trees that are joined in the same way, and whose joints end where they must, are the same.
+one-end : {t u : Tree} (at : ℕ) → Joined t u → Ends at t → Ends at u → t ≡ u
+one-end at same x y = refl
+one-end at (joint {p} lt hl hr) x y =
+    let (a, b, c) = x lt in
+    let (d, e, f) = y lt in
+    rw (one-end (p - 1) hl b e, one-end at hr c f, a, d)
 
 module _ (rules : Rules) (ts : List ℕ) (d s e : ℕ) (parts : List Part) (good : array-good ts ≡ met) (chain : Operands rules ts d s e parts)
     (end : goes-on Zero (tok ts (step ts e)) ≡ false) (deep : 9 + d ≤ nesting)
@@ -365,23 +400,34 @@ module _ (rules : Rules) (ts : List ℕ) (d s e : ℕ) (parts : List Part) (good
         let n : size t ≡ rows-of parts = rows-good t q in
         parses rules ts (valid ts good) d D Zero g (omega arith) (omega arith) (omega arith) end room left (omega arith)
 
+    abbrev found : Made rules ts d s e parts
+    found = made (valid ts good) chain
+
+    all : (D room left : ℕ) → 9 + d ≤ D → rows-of parts + left ≡ room → expression rules ts D Zero s room ≡ read (found .tree) e left
+    all = reads-good (found .tree) (found .reads) (found .good)
+
+    one-joining : (t : Tree) → reading t ≡ parts → Joins (Keeps ts) t → Joined t (found .tree)
+    one-joining t w j =
+        let u = stands rules ts d t s e parts j (onto-reading t ∙ w) chain in
+        let x : expression rules ts (9 + d) Zero s (rows-of parts + 0) ≡ read (found .tree) e 0 = all (9 + d) (rows-of parts + 0) 0 (omega arith) refl in
+        let y : expression rules ts (9 + d) Zero s (rows-of parts + 0) ≡ read (u .tree) e 0 =
+        reads-good (u .tree) (u .reads) (u .good) (9 + d) (rows-of parts + 0) 0 (omega arith) refl in
+        let z : u .tree ≡ found .tree = cc in
+        rw z at (u .joined)
+
     grouping : Grouping rules ts (9 + d) s e (rows-of parts) parts
     unfolding one-expression _>>_ _>>=_ need
     grouping =
-        let m = made (valid ts good) chain in
-        let all = reads-good (m .tree) (m .reads) (m .good) in
+        let ends = ends-good rules ts (valid ts good) d (found .good) in
         record {
-          tree = m .tree;
-          reads = sym (onto-reading (m .tree)) ∙ m .reads;
-          kept = joins-good (valid ts good) (m .good);
-          only = λ t w j.
-              let q : onto t [] ≡ parts = onto-reading t ∙ w in
-              let x : expression rules ts (9 + d) Zero s (rows-of parts + 0) ≡ read (m .tree) e 0 = all (9 + d) (rows-of parts + 0) 0 (omega arith) refl in
-              let y : expression rules ts (9 + d) Zero s (rows-of parts + 0) ≡ read t e 0 =
-              reads-good t q (stands rules ts d t s e parts j q chain) (9 + d) (rows-of parts + 0) 0 (omega arith) refl in
-              cc;
-          rows-used = rows-good (m .tree) (m .reads);
-          accepted = λ room left re. rw (good, lt-ltb s (length ts) (good-placed rules ts (valid ts good) d (m .good) .start), all nesting room left deep re);
+          tree = found .tree;
+          reads = sym (onto-reading (found .tree)) ∙ found .reads;
+          kept = joins-good (valid ts good) (found .good);
+          only = one-joining;
+          ends = ends;
+          fixed = λ t w j x. one-end e (one-joining t w j) x ends;
+          rows-used = rows-good (found .tree) (found .reads);
+          accepted = λ room left re. rw (good, lt-ltb s (length ts) (good-placed rules ts (valid ts good) d (found .good) .start), all nesting room left deep re);
           shallow = all;
         }
 

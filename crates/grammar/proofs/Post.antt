@@ -4,7 +4,7 @@ use mathlib.Core.Path.{_≡_, refl}
 use mathlib.Core.Bool.{Bool, true, false}
 use mathlib.Core.List.{List, [], _∷_}
 use lib.Dec.{ltb}
-use Rattle.grammar.specs.Tree.{Tree}
+use Rattle.grammar.specs.Tree.{Tree, ended}
 use Rattle.grammar.specs.Parsed.{Parsed, refused, read, Reader, _>>=_, _>>_, need, build, choose, Arm, _⇒_, match, NoRow}
 
 abbrev pub Fact : Type 0 → Type 1
@@ -47,7 +47,7 @@ module _ (B : ℕ → Type 0) where
     post-choose true x y h k = h refl
     post-choose false x y h k = k refl
 
-  pub post-build : (R : Fact Tree) (t : Tree) (at room : ℕ) → (room ≡ zero → B NoRow) → ((m : ℕ) → room ≡ suc m → R t at m) → Ends B R (build t at room)
+  pub post-build : (R : Fact Tree) (t : Tree) (at room : ℕ) → (room ≡ zero → B NoRow) → ((m : ℕ) → room ≡ suc m → R (ended at t) at m) → Ends B R (build t at room)
   unfolding build
   post-build R t at zero z h = z refl
   post-build R t at (suc m) z h = h m refl

@@ -48,18 +48,18 @@ module _ (rules : Rules) (ts : List ℕ) (rec : Rec) (pre : ℕ) where
   leads-more F s s′ (refused n p) y h l = tt
   leads-more F s s′ (read t c m) y h l = record { turn = l .turn; same = l .same; enough = omega (arith, l .enough) }
 
-  turn-leads : (F s s′ n : ℕ) (x : Parsed Tree) (f g : Tree × ℕ × ℕ → Parsed Tree) → s < s′ → Post (Behind ts DivMulMod s′ n) x
-      → ((t : Tree) (c m : ℕ) → Behind ts DivMulMod s′ n t c m → Leads F c (f (t, c, m)) (g (t, c, m))) → Leads (suc F) s (x >>= f) (x >>= g)
+  turn-leads : (F s r s′ n : ℕ) (x : Parsed Tree) (f g : Tree × ℕ × ℕ → Parsed Tree) → s < s′ → Post (Behind ts DivMulMod r s′ n) x
+      → ((t : Tree) (c m : ℕ) → Behind ts DivMulMod r s′ n t c m → Leads F c (f (t, c, m)) (g (t, c, m))) → Leads (suc F) s (x >>= f) (x >>= g)
   unfolding _>>=_
-  turn-leads F s s′ n (refused e p) f g lt h k = tt
-  turn-leads F s s′ n (read t c m) f g lt h k = leads-more F s c (f (t, c, m)) (g (t, c, m)) (omega (arith, h .run .on)) (k t c m h)
+  turn-leads F s r s′ n (refused e p) f g lt h k = tt
+  turn-leads F s r s′ n (read t c m) f g lt h k = leads-more F s c (f (t, c, m)) (g (t, c, m)) (omega (arith, h .run .on)) (k t c m h)
 
   led : (s s′ : ℕ) (x y : Parsed Tree) → s ≤ s′ → Leads turns s′ x y → Begins s x y
   led s s′ (refused n p) y h l = tt
   led s s′ (read t c m) y h l = inr (record { turn = l .turn; same = l .same; enough = omega (arith, l .enough) })
 
-  begins-then : (s n : ℕ) (x : Parsed Tree) (f g : Tree × ℕ × ℕ → Parsed Tree) → Post (Shut ts s n) x
-      → ((t : Tree) (c m : ℕ) → Shut ts s n t c m → Begins s (f (t, c, m)) (g (t, c, m))) → Begins s (x >>= f) (x >>= g)
+  begins-then : (s n : ℕ) (x : Parsed Tree) (f g : Tree × ℕ × ℕ → Parsed Tree) → Post (Shut ts s s n) x
+      → ((t : Tree) (c m : ℕ) → Shut ts s s n t c m → Begins s (f (t, c, m)) (g (t, c, m))) → Begins s (x >>= f) (x >>= g)
   unfolding _>>=_
   begins-then s n (refused e p) f g h k = tt
   begins-then s n (read t c m) f g h k = k t c m h
@@ -67,24 +67,24 @@ module _ (rules : Rules) (ts : List ℕ) (rec : Rec) (pre : ℕ) where
 module _ (rules : Rules) (ts : List ℕ) (v : Valid ts) (rec : Rec) (ih : (pre at room : ℕ) → at < length ts → Post (Above ts pre at room) (rec pre at room))
     (pre : ℕ) (small : pre ≤ DivMulMod)
   where
-    climb-leads : (i s n : ℕ) (t : Tree) (at room : ℕ) → Behind ts DivMulMod s n t at room
+    climb-leads : (i s p n : ℕ) (t : Tree) (at room : ℕ) → Behind ts DivMulMod s p n t at room
         → Leads rules ts rec pre i at (climb rules ts rec DivMulMod i t at room) (climb rules ts rec pre i t at room)
     unfolding climb choose
-    climb-leads zero s n t at room b = tt
-    climb-leads (suc i) s n t at room b = go (goes-on DivMulMod (tok ts (step ts at))) refl (climb-leads i (step ts at) n)
+    climb-leads zero s p n t at room b = tt
+    climb-leads (suc i) s p n t at room b = go (goes-on DivMulMod (tok ts (step ts at))) refl (climb-leads i s (step ts at) n)
       where
         again : (pre : ℕ) → Tree × ℕ × ℕ → Parsed Tree
         again pre (t, at, room) = climb rules ts rec pre i t at room
 
         go : (b : Bool) → goes-on DivMulMod (tok ts (step ts at)) ≡ b
-            → ((t : Tree) (c m : ℕ) → Behind ts DivMulMod (step ts at) n t c m → Leads rules ts rec pre i c (climb rules ts rec DivMulMod i t c m) (climb rules ts rec pre i t c m))
+            → ((t : Tree) (c m : ℕ) → Behind ts DivMulMod s (step ts at) n t c m → Leads rules ts rec pre i c (climb rules ts rec DivMulMod i t c m) (climb rules ts rec pre i t c m))
             → Leads rules ts rec pre (suc i) at (choose b (λ _. operation rules ts rec t (step ts at) room >>= again DivMulMod) (λ _. read t at room))
             (climb rules ts rec pre (suc i) t at room)
         go true e more =
             let w : ℕ = tok ts (step ts at) in
             rw (lower pre DivMulMod w small e)
-            (turn-leads rules ts rec pre i at (step ts at) n _ _ _ (goes-forward ts v at (b .run .within) (inr (no-end DivMulMod w e)))
-            (operation-runs ts v rules rec ih DivMulMod s n t at room b e) more)
+            (turn-leads rules ts rec pre i at s (step ts at) n _ _ _ (goes-forward ts v at (b .run .within) (inr (no-end DivMulMod w e)))
+            (operation-runs ts v rules rec ih DivMulMod s p n t at room b e) more)
         go false e more = record { turn = i; same = refl; enough = omega arith }
 
     pub level-begins : (s room : ℕ) → s < length ts → Begins rules ts rec pre s (level rules ts rec DivMulMod s room) (level rules ts rec pre s room)
@@ -93,9 +93,9 @@ module _ (rules : Rules) (ts : List ℕ) (v : Valid ts) (rec : Rec) (ih : (pre a
         begins-then rules ts rec pre s room (prefix-part rules ts rec s room) _ _ (prefix-part-runs ts v rules rec ih s room h)
         (λ t c m q. go t c m q (eqb (tok ts (step ts c)) SSemiColon) refl)
       where
-        go : (t : Tree) (c m : ℕ) → Shut ts s room t c m → (b : Bool) → eqb (tok ts (step ts c)) SSemiColon ≡ b
+        go : (t : Tree) (c m : ℕ) → Shut ts s s room t c m → (b : Bool) → eqb (tok ts (step ts c)) SSemiColon ≡ b
             → Begins rules ts rec pre s (choose b (λ _. read t (step ts c) m) (λ _. climb rules ts rec DivMulMod turns t c m))
             (choose b (λ _. read t (step ts c) m) (λ _. climb rules ts rec pre turns t c m))
         go t c m q true e = inl (refl, eqb-true _ _ e)
         go t c m q false e =
-            led rules ts rec pre s c (climb rules ts rec DivMulMod turns t c m) (climb rules ts rec pre turns t c m) (q .run .on) (climb-leads turns s room t c m (shut-behind ts DivMulMod q))
+            led rules ts rec pre s c (climb rules ts rec DivMulMod turns t c m) (climb rules ts rec pre turns t c m) (q .run .on) (climb-leads turns s s room t c m (shut-behind ts DivMulMod q))

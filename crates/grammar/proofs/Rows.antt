@@ -22,8 +22,8 @@ mutual
   unfolding lay
 
   pub length-lay : (t : Tree) (first next : ℕ) → length (lay t first next) ≡ width * size t
-  length-lay (infixed m p l r) first next = simp length-append (omega (arith, length-lay l first 0, length-lay r (first + size l) 0))
-  length-lay (node k m p a b c d) first next =
+  length-lay (infixed m p l r z) first next = simp length-append (omega (arith, length-lay l first 0, length-lay r (first + size l) 0))
+  length-lay (node k m p a b c d z) first next =
       let i = first + sizes a in
       let j = i + sizes b in
       simp length-append (omega (arith, length-lays a first, length-lays b i, length-lays c j, length-lays d (j + sizes c)))
@@ -53,7 +53,7 @@ module _ {ws : List ℕ} {i : ℕ} where
       ∙ List·getD-append vs (h .after) 0 k lt
 
 -- The words of a row.
-pub record Holds (ws : List ℕ) (reference kind mark place c0 c1 c2 c3 next : ℕ) : Type 0 where
+pub record Holds (ws : List ℕ) (reference kind mark place c0 c1 c2 c3 next end : ℕ) : Type 0 where
   pub kind-word : word-of ws reference 0 ≡ kind
   pub mark-word : word-of ws reference 1 ≡ mark
   pub place-word : word-of ws reference 2 ≡ place
@@ -62,9 +62,10 @@ pub record Holds (ws : List ℕ) (reference kind mark place c0 c1 c2 c3 next : �
   pub c2-word : word-of ws reference 5 ≡ c2
   pub c3-word : word-of ws reference 6 ≡ c3
   pub next-word : word-of ws reference 7 ≡ next
+  pub end-word : word-of ws reference 8 ≡ end
 
-row-holds : {ws : List ℕ} (i reference k m p a b c d n : ℕ) → i + 1 ≡ reference → Held ws i (row k m p a b c d n) → Holds ws reference k m p a b c d n
-row-holds {ws} i r k m p a b c d n e h =
+row-holds : {ws : List ℕ} (i reference k m p a b c d n z : ℕ) → i + 1 ≡ reference → Held ws i (row k m p a b c d n z) → Holds ws reference k m p a b c d n z
+row-holds {ws} i r k m p a b c d n z e h =
     let q : r - 1 ≡ i = omega arith in
     record {
       kind-word = rw q (held-word 0 (omega arith) h);
@@ -75,45 +76,46 @@ row-holds {ws} i r k m p a b c d n e h =
       c2-word = rw q (held-word 5 (omega arith) h);
       c3-word = rw q (held-word 6 (omega arith) h);
       next-word = rw q (held-word 7 (omega arith) h);
+      end-word = rw q (held-word 8 (omega arith) h);
     }
 
 module _ (ws : List ℕ) where
   -- Where the sides of an infix row stand, and what the row itself holds.
-  pub record Two (m p : ℕ) (l r : Tree) (first next : ℕ) : Type 0 where
+  pub record Two (m p : ℕ) (l r : Tree) (z first next : ℕ) : Type 0 where
     pub left : Held ws first (lay l first 0)
     pub right : Held ws (first + size l) (lay r (first + size l) 0)
-    pub own : Holds ws (first + size (infixed m p l r)) 12 m p (first + size l) (first + size l + size r) 0 0 next
+    pub own : Holds ws (first + size (infixed m p l r z)) 12 m p (first + size l) (first + size l + size r) 0 0 next z
 
-  pub two : (m p : ℕ) (l r : Tree) (first next : ℕ) → Held ws first (lay (infixed m p l r) first next) → Two m p l r first next
+  pub two : (m p : ℕ) (l r : Tree) (z first next : ℕ) → Held ws first (lay (infixed m p l r z) first next) → Two m p l r z first next
   unfolding lay
-  two m p l r first next h =
-      let R : List ℕ = row 12 m p (first + size l) (first + size l + size r) 0 0 next in
+  two m p l r z first next h =
+      let R : List ℕ = row 12 m p (first + size l) (first + size l + size r) 0 0 next z in
       let x = held-split (lay l first 0) (lay r (first + size l) 0 ++ R) (size l) (length-lay l first 0) (rw append-assoc at h) in
       let y = held-split (lay r (first + size l) 0) R (size r) (length-lay r (first + size l) 0) (x .1) in
-      record { left = x .0; right = y .0; own = row-holds (first + size l + size r) (first + size (infixed m p l r)) 12 m p _ _ 0 0 next (omega arith) (y .1) }
+      record { left = x .0; right = y .0; own = row-holds (first + size l + size r) (first + size (infixed m p l r z)) 12 m p _ _ 0 0 next z (omega arith) (y .1) }
 
   -- Where the slots of another row stand, and what the row itself holds.
-  pub record Four (k m p : ℕ) (a b c d : Trees) (first next : ℕ) : Type 0 where
+  pub record Four (k m p : ℕ) (a b c d : Trees) (end first next : ℕ) : Type 0 where
     pub c0 : Held ws first (lays a first)
     pub c1 : Held ws (first + sizes a) (lays b (first + sizes a))
     pub c2 : Held ws (first + sizes a + sizes b) (lays c (first + sizes a + sizes b))
     pub c3 : Held ws (first + sizes a + sizes b + sizes c) (lays d (first + sizes a + sizes b + sizes c))
     pub own : Holds ws (first + (sizes a + sizes b + sizes c + sizes d + 1)) k m p (head-ref a first) (head-ref b (first + sizes a))
-        (head-ref c (first + sizes a + sizes b)) (head-ref d (first + sizes a + sizes b + sizes c)) next
+        (head-ref c (first + sizes a + sizes b)) (head-ref d (first + sizes a + sizes b + sizes c)) next end
 
-  pub four : (k m p : ℕ) (a b c d : Trees) (first next : ℕ) → Held ws first (lay (node k m p a b c d) first next) → Four k m p a b c d first next
+  pub four : (k m p : ℕ) (a b c d : Trees) (end first next : ℕ) → Held ws first (lay (node k m p a b c d end) first next) → Four k m p a b c d end first next
   unfolding lay
-  four k m p a b c d first next h =
+  four k m p a b c d end first next h =
       let i = first + sizes a in
       let j = first + sizes a + sizes b in
       let n = first + sizes a + sizes b + sizes c in
-      let R : List ℕ = row k m p (head-ref a first) (head-ref b i) (head-ref c j) (head-ref d n) next in
+      let R : List ℕ = row k m p (head-ref a first) (head-ref b i) (head-ref c j) (head-ref d n) next end in
       let h′ : Held ws first (lays a first ++ (lays b i ++ (lays c j ++ (lays d n ++ R)))) = simp append-assoc at h in
       let x = held-split (lays a first) (lays b i ++ (lays c j ++ (lays d n ++ R))) (sizes a) (length-lays a first) h′ in
       let y = held-split (lays b i) (lays c j ++ (lays d n ++ R)) (sizes b) (length-lays b i) (x .1) in
       let z = held-split (lays c j) (lays d n ++ R) (sizes c) (length-lays c j) (y .1) in
       let w = held-split (lays d n) R (sizes d) (length-lays d n) (z .1) in
-      let o = row-holds (n + sizes d) (first + (sizes a + sizes b + sizes c + sizes d + 1)) k m p _ _ _ _ next (omega arith) (w .1) in
+      let o = row-holds (n + sizes d) (first + (sizes a + sizes b + sizes c + sizes d + 1)) k m p _ _ _ _ next end (omega arith) (w .1) in
       record { c0 = x .0; c1 = y .0; c2 = z .0; c3 = w .0; own = o }
 
   pub more : (t : Tree) (ts : Trees) (first : ℕ) → Held ws first (lays (t ▸ ts) first)
@@ -128,11 +130,11 @@ module _ (ts ws : List ℕ) where
   no-infix-row k r e z h = eqb-false k 12 z (sym e ∙ h)
 
   binds-row : (n : ℕ) (t : Tree) (first next : ℕ) → Held ws first (lay t first next) → Every (KeepsBut ts) t → Binds ts n t → RowBinds ts ws n (first + size t)
-  binds-row n (infixed m p l r) first next h k b = λ e lt. let o = two ws m p l r first next h .own in rw (o .place-word) (b (omega (arith, o .mark-word)))
-  binds-row n (node kd m p c0 c1 c2 c3) first next h k b = λ e lt. absurd (no-infix-row kd _ (four ws kd m p c0 c1 c2 c3 first next h .own .kind-word) (k .0) e)
+  binds-row n (infixed m p l r z) first next h k b = λ e lt. let o = two ws m p l r z first next h .own in rw (o .place-word) (b (omega (arith, o .mark-word)))
+  binds-row n (node kd m p c0 c1 c2 c3 z) first next h k b = λ e lt. absurd (no-infix-row kd _ (four ws kd m p c0 c1 c2 c3 z first next h .own .kind-word) (k .0) e)
 
-  own-row : (m p : ℕ) (l r : Tree) (first next : ℕ) → Two ws m p l r first next → Every (KeepsBut ts) (infixed m p l r) → RowRuled ts ws (first + size (infixed m p l r))
-  own-row m p l r first next w k =
+  own-row : (m p : ℕ) (l r : Tree) (z first next : ℕ) → Two ws m p l r z first next → Every (KeepsBut ts) (infixed m p l r z) → RowRuled ts ws (first + size (infixed m p l r z))
+  own-row m p l r z first next w k =
       let o = w .own in
       record {
         sign = rw (o .place-word, o .mark-word) (k .0 .sign);
@@ -156,14 +158,14 @@ module _ (ts ws : List ℕ) where
 
   mutual
     tree-rows : (t : Tree) (first next : ℕ) → Held ws first (lay t first next) → Every (KeepsBut ts) t → Among first (size t)
-    tree-rows (infixed m p l r) first next h k =
-        let w = two ws m p l r first next h in
+    tree-rows (infixed m p l r z) first next h k =
+        let w = two ws m p l r z first next h in
         let i = first + size l in
-        let q : i + size r + 1 ≡ first + size (infixed m p l r) = omega arith in
+        let q : i + size r + 1 ≡ first + size (infixed m p l r z) = omega arith in
         let sides = among-both first (size l) i (size r) refl (tree-rows l first 0 (w .left) (k .1)) (tree-rows r i 0 (w .right) (k .2)) in
-        among-both first (size l + size r) (i + size r) 1 (omega arith) sides (among-one (i + size r) (λ e. rw q (own-row m p l r first next w k)))
-    tree-rows (node kd m p a b c d) first next h k =
-        let w = four ws kd m p a b c d first next h in
+        among-both first (size l + size r) (i + size r) 1 (omega arith) sides (among-one (i + size r) (λ e. rw q (own-row m p l r z first next w k)))
+    tree-rows (node kd m p a b c d z) first next h k =
+        let w = four ws kd m p a b c d z first next h in
         let i = first + sizes a in
         let j = i + sizes b in
         let n = j + sizes c in
@@ -206,7 +208,7 @@ pool-rows ts words (read us at room) h r lo e = go (decLt (sizes us) r)
 
 pub pool-rule : PoolKeepsRule
 pool-rule rules ts start room words = (
-  pool-rows ts words _ (post-map _ (Run ts start room) _ (one-expression rules ts start room) (expression-entry rules ts start room) (λ us c m h. h .kept)),
-  pool-rows ts words _ (post-map _ (Run ts start room) _ (one-statement rules ts start room) (statement-entry rules ts start room) (λ us c m h. h .kept)),
-  pool-rows ts words _ (post-map _ (Run ts 0 room) _ (whole-script rules ts room) (script-entry rules ts room) (λ us c m h. h .kept)),
+  pool-rows ts words _ (post-map _ (Run ts start start room) _ (one-expression rules ts start room) (expression-entry rules ts start room) (λ us c m h. h .kept)),
+  pool-rows ts words _ (post-map _ (Run ts start start room) _ (one-statement rules ts start room) (statement-entry rules ts start room) (λ us c m h. h .kept)),
+  pool-rows ts words _ (post-map _ (Run ts 0 0 room) _ (whole-script rules ts room) (script-entry rules ts room) (λ us c m h. h .kept)),
 )

@@ -22,7 +22,7 @@ step-on ts at = go (ltb (at + 1) (length ts))
     go false = omega arith
 
 -- A step goes no more than one on, and a later place has a later one behind it.
-step-most : (ts : List ℕ) (at : ℕ) → step ts at ≤ at + 1
+pub step-most : (ts : List ℕ) (at : ℕ) → step ts at ≤ at + 1
 unfolding step
 step-most ts at = go (ltb (at + 1) (length ts))
   where

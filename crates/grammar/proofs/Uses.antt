@@ -7,7 +7,7 @@ use native.Mathlib.Omega.{arith}
 use lib.ListN.{replicate}
 use Rattle.grammar.specs.Words.{Operator, EOF, Identifier, SLParen, SRparen, SSemiColon, SComma, SExcl, SEq, SLBrace, SRBrace, SIncr, SLBox, SRBox, SImpl, KWhile, KTry, KCatch, KFinally}
 use Rattle.grammar.specs.Words.{KForEach, Zero, tok, step, is, next-is, class, code, by-code, orders, infixes, order, infix-of, operates, goes-on, codes, valid}
-use Rattle.grammar.specs.Tree.{infixed, identifier, call, index, Trees, nil, _▸_, join, flag, flagged, is-call}
+use Rattle.grammar.specs.Tree.{infixed, ended, identifier, call, index, Trees, nil, _▸_, join, flag, flagged, is-call}
 use Rattle.grammar.specs.Parsed.{Parsed, refused, _>>=_, _>>_, need, build, choose, match, turns, TooDeep, NoRow}
 use Rattle.grammar.specs.Rules.{Rules, original, fits}
 use Rattle.grammar.specs.Expressions as e
@@ -34,7 +34,7 @@ two-semicolons zero h = refl
 two-semicolons (suc zero) h = refl
 two-semicolons (suc (suc j)) h = absurd (omega arith)
 
-sum-grouped : Grouping original sum 10 0 5 5 (operand (identifier 0) ∷ sign 0 1 ∷ operand (identifier 2) ∷ sign 2 3 ∷ operand (identifier 4) ∷ [])
+sum-grouped : Grouping original sum 10 0 5 5 (operand (ended 0 (identifier 0)) ∷ sign 0 1 ∷ operand (ended 2 (identifier 2)) ∷ sign 2 3 ∷ operand (ended 4 (identifier 4)) ∷ [])
 unfolding tok class code by-code orders infixes order infix-of codes valid need longest both words-good array-good
 sum-grouped =
     chains original sum 0 3 5 _ refl (more an-identifier refl (more an-identifier refl (one an-identifier))) (by-semicolons 1 two-semicolons refl (λ e. omega arith))
@@ -44,7 +44,9 @@ abbrev mixed : List ℕ
 mixed = a ∷ SLParen ∷ a ∷ SRparen ∷ sym 2 ∷ SLParen ∷ a ∷ sym 2 ∷ a ∷ SRparen ∷ sym 3 ∷ a ∷ SLBox ∷ a ∷ SRBox ∷ EOF ∷ []
 
 mixed-grouped : Grouping original mixed 12 0 14 11
-    (operand (call 1 (identifier 0) (identifier 2 ▸ nil)) ∷ sign 1 4 ∷ operand (infixed 257 7 (identifier 6) (identifier 8)) ∷ sign 2 10 ∷ operand (index 12 (identifier 11) (identifier 13)) ∷ [])
+    (operand (ended 3 (call 1 (ended 0 (identifier 0)) (ended 2 (identifier 2) ▸ nil)))
+    ∷ sign 1 4 ∷ operand (infixed 257 7 (ended 6 (identifier 6)) (ended 8 (identifier 8)) 8)
+    ∷ sign 2 10 ∷ operand (ended 14 (index 12 (ended 11 (identifier 11)) (ended 13 (identifier 13)))) ∷ [])
 unfolding tok step is next-is class code by-code orders infixes order infix-of operates goes-on codes valid join flag flagged is-call rows-of nesting
     _>>=_ _>>_ need build choose match turns longest both words-good array-good
     e.get-identifier e.dots e.dot-expression e.no-prefix e.entries e.list-expr e.pair e.hash-literal e.array e.lambda e.started e.prefix e.sub-expression e.command e.shell fits

@@ -5,7 +5,7 @@ use mathlib.Core.Bool.{Bool, true, false, not}
 use mathlib.Core.List.{List, [], _∷_}
 use lib.Dec.{eqb}
 use Rattle.grammar.specs.Words.{tok, step, is, next-is, goes-on}
-use Rattle.grammar.specs.Tree.{Tree, node, Trees, leaf, Thread, Async}
+use Rattle.grammar.specs.Tree.{Tree, node, Trees, leaf, ended, Thread, Async}
 use Rattle.grammar.specs.Parsed.{Parsed, refused, read, Reader, _>>=_, _>>_, need, build, choose, Arm, _⇒_, match, WrongSign}
 use Rattle.grammar.specs.Rules.{Rules, fits}
 use Rattle.grammar.specs.Expressions as e
@@ -23,7 +23,7 @@ pub record Kept (At : ℕ → ℕ → Type 0) (up : ℕ → ℕ) (Rel : Relation
   pub reading : {A : Type 0} (R : A → A → Type 0) (a b : A) (at bt n : ℕ) → R a b → At at bt → Rel A R (read a at n) (read b bt (up n))
   pub going-on : {A B : Type 0} (R : A → A → Type 0) (S : B → B → Type 0) (x y : Parsed A) (f g : A × ℕ × ℕ → Parsed B) → Rel A R x y
       → ((a b : A) (at bt n : ℕ) → R a b → At at bt → Rel B S (f (a, at, n)) (g (b, bt, up n))) → Rel B S (x >>= f) (y >>= g)
-  pub building : (t u : Tree) (at bt n : ℕ) → Like At t u → At at bt → Rel Tree (Like At) (build t at n) (build u bt (up n))
+  pub building : (t u : Tree) (at bt n : ℕ) → Like At (ended at t) (ended bt u) → At at bt → Rel Tree (Like At) (build t at n) (build u bt (up n))
 
 -- What the walk along two readings asks for: such a relation; that the tokens at places that correspond are the same, and that the places after
 -- them correspond; and that the relation is kept where the first rules P and the second rules Q may differ.
@@ -88,12 +88,12 @@ module _ {At : ℕ → ℕ → Type 0} {up : ℕ → ℕ} {Rel : Relation} {P Q 
     on-choose true b x y x′ y′ e h k = rw (← e) h
     on-choose false b x y x′ y′ e h k = rw (← e) k
 
-  on-build : (t u : Tree) (at bt n : ℕ) → Like At t u → At at bt → Rel Tree (Like At) (build t at n) (build u bt (up n))
+  on-build : (t u : Tree) (at bt n : ℕ) → Like At (ended at t) (ended bt u) → At at bt → Rel Tree (Like At) (build t at n) (build u bt (up n))
   on-build t u at bt n l h = beside .kept .building t u at bt n l h
 
   on-node : (k m p q : ℕ) (a b c d a′ b′ c′ d′ : Trees) (at bt n : ℕ) → At p q → Likes At a a′ → Likes At b b′ → Likes At c c′ → Likes At d d′ → At at bt
-      → Rel Tree (Like At) (build (node k m p a b c d) at n) (build (node k m q a′ b′ c′ d′) bt (up n))
-  on-node k m p q a b c d a′ b′ c′ d′ at bt n h x y z w i = on-build _ _ at bt n (nodes h x y z w) i
+      → Rel Tree (Like At) (build (node k m p a b c d 0) at n) (build (node k m q a′ b′ c′ d′ 0) bt (up n))
+  on-node k m p q a b c d a′ b′ c′ d′ at bt n h x y z w i = on-build _ _ at bt n (nodes h x y z w i) i
 
   -- What holds of the arms of two matches, arm by arm.
   infixr 5 _▹_

@@ -8,7 +8,7 @@ use lib.Dec.{eqb, ltb}
 use lib.ListN.{length, getD, replicate}
 use Rattle.grammar.specs.Words.{Integer, Str, Float, Char, Identifier, SSemiColon, SDot, KNone, KTrue, KFalse, tok, step, Zero, order, infix-of}
 use Rattle.grammar.specs.Words.{goes-on}
-use Rattle.grammar.specs.Tree.{Tree, infixed, node, Trees, nil, _▸_, size, sizes, lay, identifier, int, float, char, string, bool, none, width}
+use Rattle.grammar.specs.Tree.{Tree, infixed, node, Trees, nil, _▸_, size, sizes, lay, identifier, int, float, char, string, bool, none, width, ended}
 use Rattle.grammar.specs.Parsed.{Parsed, refused, read, met, Unreached, NoRow, WrongSign}
 use Rattle.grammar.specs.Rules.{Rules, original}
 use Rattle.grammar.specs.Expressions.{expression}
@@ -26,14 +26,14 @@ MarksOrder = (w mark : ℕ) → infix-of w ≡ suc mark → (mark < 23) × (orde
 
 -- An infix row that is in no brackets has the order `n` or a higher one: the order of the operator at its place.
 abbrev pub Binds : List ℕ → ℕ → Tree → Type 0
-Binds ts n (infixed m p l r) = m < 256 → n ≤ order (tok ts p)
-Binds ts n (node k m p a b c d) = Unit {0}
+Binds ts n (infixed m p l r z) = m < 256 → n ≤ order (tok ts p)
+Binds ts n (node k m p a b c d z) = Unit {0}
 
 abbrev mutual
   -- What holds of a tree and of every tree in it.
   pub Every : (Tree → Type 0) → Tree → Type 0
-  Every Q (infixed m p l r) = Q (infixed m p l r) × Every Q l × Every Q r
-  Every Q (node k m p a b c d) = Q (node k m p a b c d) × EveryOf Q a × EveryOf Q b × EveryOf Q c × EveryOf Q d
+  Every Q (infixed m p l r z) = Q (infixed m p l r z) × Every Q l × Every Q r
+  Every Q (node k m p a b c d z) = Q (node k m p a b c d z) × EveryOf Q a × EveryOf Q b × EveryOf Q c × EveryOf Q d
 
   -- What holds of the trees of a slot and of every tree in them.
   pub EveryOf : (Tree → Type 0) → Trees → Type 0
@@ -49,8 +49,8 @@ pub record Ruled (ts : List ℕ) (mark place : ℕ) (left right : Tree) : Type 0
 
 -- A tree whose root keeps the rule, if it is an infix row; no other row has the kind of one.
 abbrev pub KeepsBut : List ℕ → Tree → Type 0
-KeepsBut ts (infixed m p l r) = Ruled ts m p l r
-KeepsBut ts (node k m p a b c d) = eqb k 12 ≡ false
+KeepsBut ts (infixed m p l r z) = Ruled ts m p l r
+KeepsBut ts (node k m p a b c d z) = eqb k 12 ≡ false
 
 -- What holds of every accepted answer of the three entries, from any start place and with any number of rows; a whole script starts at 0.
 abbrev pub OfEntries : ((ts : List ℕ) (start room : ℕ) (us : Trees) (at left : ℕ) → Type 0) → Type 0
@@ -158,6 +158,32 @@ PoolKeepsRule =
     × RowsRuled ts (pool words (one-statement rules ts start room))
     × RowsRuled ts (pool words (whole-script rules ts room))
 
+-- Where the rows of a pool end: no place is before the start or past its row's end, no end is past the last place, and ends never fall from row to row.
+pub record RowsEnd (pool : List ℕ) (start used last : ℕ) : Type 0 where
+  pub begins : (r : ℕ) → 1 ≤ r → r ≤ used → start ≤ word-of pool r 2
+  pub ordered : (r : ℕ) → 1 ≤ r → r ≤ used → word-of pool r 2 ≤ word-of pool r 8
+  pub inside : (r : ℕ) → 1 ≤ r → r ≤ used → word-of pool r 8 ≤ last
+  pub rising : (q r : ℕ) → 1 ≤ q → q ≤ r → r ≤ used → word-of pool q 8 ≤ word-of pool r 8
+
+-- So it is of every accepted answer, with the answer's place for the last.
+abbrev pub PoolEnds : Type 0
+PoolEnds = OfEntries (λ ts start room us at left. (words : ℕ) → RowsEnd (pool words (read us at left)) start (sizes us) at)
+
+-- The end of a row that an entry has left is the place where the same call with just the rows before it is refused for want of a row, and no other.
+abbrev pub EndsWhereLacking : ((room : ℕ) → Parsed Trees) → Type 0
+EndsWhereLacking entry =
+    (room words r place : ℕ) (us : Trees) (at left : ℕ) → entry room ≡ read us at left → 1 ≤ r → r ≤ sizes us
+    → (word-of (pool words (entry room)) r 8 ≡ place → entry (r - 1) ≡ refused NoRow place)
+    × (entry (r - 1) ≡ refused NoRow place → word-of (pool words (entry room)) r 8 ≡ place)
+
+-- The same of all three entries.
+abbrev pub EndsTold : Type 0
+EndsTold =
+    (rules : Rules) (ts : List ℕ) (start : ℕ)
+    → EndsWhereLacking (λ room. one-expression rules ts start room)
+    × EndsWhereLacking (λ room. one-statement rules ts start room)
+    × EndsWhereLacking (λ room. whole-script rules ts room)
+
 -- More nesting and more rows never change what the reader of expressions, or that of statements, accepts.
 abbrev pub MoreNesting : Type 0
 MoreNesting =
@@ -193,25 +219,38 @@ pub data Part : Type 0 where
 
 -- A tree read left to right: an infix row in no brackets gives its left side, its operator and its right side, any other tree is an operand.
 unfoldable pub reading : Tree → List Part
-reading (infixed m p l r) = cond (ltb m 256) (reading l ++ (sign m p ∷ reading r)) (operand (infixed m p l r) ∷ [])
-reading (node k m p a b c d) = operand (node k m p a b c d) ∷ []
+reading (infixed m p l r z) = cond (ltb m 256) (reading l ++ (sign m p ∷ reading r)) (operand (infixed m p l r z) ∷ [])
+reading (node k m p a b c d z) = operand (node k m p a b c d z) ∷ []
 
 -- What holds of the infix rows that join a tree's operands.
 abbrev pub Joins : ((mark place : ℕ) (left right : Tree) → Type 0) → Tree → Type 0
-Joins P (infixed m p l r) = m < 256 → P m p l r × Joins P l × Joins P r
-Joins P (node k m p a b c d) = Unit {0}
+Joins P (infixed m p l r z) = m < 256 → P m p l r × Joins P l × Joins P r
+Joins P (node k m p a b c d z) = Unit {0}
 
 -- The rule with no exception: a left side binds no looser, a right side strictly tighter.
 abbrev pub Keeps : List ℕ → (mark place : ℕ) (left right : Tree) → Type 0
 Keeps ts m p l r = Binds ts (order (tok ts p)) l × Binds ts (suc (order (tok ts p))) r
 
--- A chain's tree, read from `start` up to `at`: what was read, left to right, is the chain; the rule is kept, and by no other tree of that reading;
--- so many rows are used; the entry accepts with so many rows or more, and no more than `deep` expressions are open at once.
+-- The same operands, joined by the same operators in the same way, wherever the joints end.
+pub data Joined : Tree → Tree → Type 0 where
+  same : {t : Tree} → Joined t t
+  joint : {m p y z : ℕ} {l r l′ r′ : Tree} → m < 256 → Joined l l′ → Joined r r′ → Joined (infixed m p l r y) (infixed m p l′ r′ z)
+
+-- Where the infix rows that join a tree's operands end: the root's at a place, a left side's just before the operator, a right side's with the row itself.
+abbrev pub Ends : ℕ → Tree → Type 0
+Ends at (infixed m p l r z) = m < 256 → (z ≡ at) × Ends (p - 1) l × Ends at r
+Ends at (node k m p a b c d z) = Unit {0}
+
+-- A chain's tree, read from `start` up to `at`: what was read, left to right, is the chain; the rule is kept, and any other tree of that reading that
+-- keeps it is joined in the same way; each joint ends where it must, and no other tree ends so; so many rows are used; the entry accepts with so many
+-- rows or more, and no more than `deep` expressions are open at once.
 pub record Grouping (rules : Rules) (ts : List ℕ) (deep start at used : ℕ) (parts : List Part) : Type 0 where
   pub tree : Tree
   pub reads : reading tree ≡ parts
   pub kept : Joins (Keeps ts) tree
-  pub only : (t : Tree) → reading t ≡ parts → Joins (Keeps ts) t → t ≡ tree
+  pub only : (t : Tree) → reading t ≡ parts → Joins (Keeps ts) t → Joined t tree
+  pub ends : Ends at tree
+  pub fixed : (t : Tree) → reading t ≡ parts → Joins (Keeps ts) t → Ends at t → t ≡ tree
   pub rows-used : size tree ≡ used
   pub accepted : (room left : ℕ) → used + left ≡ room → one-expression rules ts start room ≡ read (tree ▸ nil) at left
   pub shallow : (d room left : ℕ) → deep ≤ d → used + left ≡ room → expression rules ts d Zero start room ≡ read tree at left
@@ -229,9 +268,9 @@ pub data Value : ℕ → (ℕ → Tree) → Type 0 where
 
 -- n values from a place on, with infix operators between them.
 pub data Chain (ts : List ℕ) : (start n : ℕ) → List Part → Type 0 where
-  one : {s : ℕ} {row : ℕ → Tree} → Value (tok ts s) row → Chain ts s 1 (operand (row s) ∷ [])
+  one : {s : ℕ} {row : ℕ → Tree} → Value (tok ts s) row → Chain ts s 1 (operand (ended s (row s)) ∷ [])
   more : {s n mark : ℕ} {row : ℕ → Tree} {parts : List Part} → Value (tok ts s) row → infix-of (tok ts (s + 1)) ≡ suc mark → Chain ts (s + 2) n parts
-      → Chain ts s (suc n) (operand (row s) ∷ sign mark (s + 1) ∷ parts)
+      → Chain ts s (suc n) (operand (ended s (row s)) ∷ sign mark (s + 1) ∷ parts)
 
 -- What follows a chain whose last value is at `last`: a token of order Zero that is neither a semicolon nor, behind an identifier, a dot;
 -- or one or more semicolons and then a token of order Zero that isn't one. With it, where the reader then stands.

@@ -161,7 +161,7 @@ module _ (rules : Rules) (ts : List ℕ) where
     unfoldable pub infix-expression : Tree → Reader Tree
     infix-expression left start room = do
       (right, at, room) ← rec (order (tok ts start)) (step ts start) room
-      build (infixed (infix-of (tok ts start) - 1) start left right) at room
+      build (infixed (infix-of (tok ts start) - 1) start left right 0) at room
 
     -- parse_suffix_expression, behind `left`, by the mark of its operator.
     unfoldable pub suffix-expression : Tree → ℕ → Reader Tree

@@ -3,7 +3,7 @@ use Prim.Native.Nat.{ℕ, zero, suc}
 use mathlib.Core.Bool.{Bool, true, false}
 use mathlib.Core.List.{List, [], _∷_}
 use lib.Dec.{eqb}
-use Rattle.grammar.specs.Tree.{Tree}
+use Rattle.grammar.specs.Tree.{Tree, ended}
 
 -- A refusal with its number and place, or what was read, the place of the current token and the rows left.
 pub data Parsed (A : Type 0) : Type 0 where
@@ -111,10 +111,10 @@ ContinueWithoutSemicolon = 29
 abbrev pub WrongSign : ℕ
 WrongSign = 30
 
--- A row is due: a tree, where a row is left for its root.
+-- A row is due: a tree, where a row is left for its root, which ends at the current token.
 unfoldable pub build : Tree → Reader Tree
 build t at zero = refused NoRow at
-build t at (suc room) = read t at room
+build t at (suc room) = read (ended at t) at room
 
 -- A test whose branches wait.
 unfoldable pub choose : {A : Type 0} → Bool → (Unit {0} → Parsed A) → (Unit {0} → Parsed A) → Parsed A

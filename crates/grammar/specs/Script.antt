@@ -78,7 +78,7 @@ unfoldable pub pool : (words : ℕ) → Parsed Trees → List ℕ
 pool words (refused n p) = replicate words 0
 pool words (read ts at room) = lays ts 0 ++ replicate (words - width * sizes ts) 0
 
--- Where in a pool a word of the row with a reference stands: word 0 is its kind, 1 its mark, 2 its place, 3 to 6 its children, 7 its next.
+-- Where in a pool a word of the row with a reference stands: word 0 is its kind, 1 its mark, 2 its place, 3 to 6 its children, 7 its next, 8 its end.
 abbrev pub seat : (reference word : ℕ) → ℕ
 seat r k = width * (r - 1) + k
 

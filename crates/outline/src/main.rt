@@ -14,12 +14,12 @@ ghost use Rattle.lines.specs.Lines.{used, longest};
 ghost use Rattle.lines.specs.Lines.{text as whole-text, lines as text-lines};
 ghost use Rattle.outline.specs.Outlined.{outlined};
 
-// The bytes of the longest file and one more, the words of the most tokens, and the words of 2,000 rows.
+// The bytes of the longest file and one more, the words of the most tokens, and the words of 1,800 rows.
 const BYTES: usize = 60001;
 
 const TOKENS: usize = 20000;
 
-const ROWS: usize = 2000;
+const ROWS: usize = 1800;
 
 const POOL: usize = WIDTH * ROWS;
 

@@ -1,20 +1,22 @@
 -- The promises of the entries: what is claimed of the definition, carried to every result that meets a contract.
-use Prim.Native.Nat.{ℕ}
+use Prim.Native.Nat.{ℕ, _-_}
 use native.Mathlib.Omega.{arith}
 use mathlib.Core.Path.{_≡_, refl, sym, ap, _∙_}
 use mathlib.Core.Logic.{_⊎_, inl, inr, ⊎-elim}
 use mathlib.Core.List.{List}
-use Rattle.grammar.specs.Tree.{Trees}
-use Rattle.grammar.specs.Parsed.{Parsed, refused, read}
-use Rattle.grammar.specs.Script.{answer, pool, rows}
+use Rattle.grammar.specs.Tree.{Trees, sizes}
+use Rattle.grammar.specs.Parsed.{Parsed, refused, read, NoRow}
+use Rattle.grammar.specs.Script.{answer, pool, rows, word-of, one-expression, one-statement, whole-script}
 use Rattle.grammar.proofs.Answers.{answers}
 use Rattle.grammar.proofs.Rows.{pool-rule}
-use Rattle.grammar.specs.Claims.{Unless}
+use Rattle.grammar.proofs.Ends.{ends, ends-told}
+use Rattle.grammar.specs.Claims.{RowsEnd, EndsWhereLacking, Unless}
 use Rattle.grammar.proofs.Strict.{strict-or-same}
 use Rattle.grammar.proofs.Suffices.{rows-enough, largest-enough, rows-full}
 use Rattle.answer.specs.Answer.{Entered, answered, numbers}
 use Rattle.answer.specs.declared.Answer.the-variants.{Accepted, Refused}
-use Rattle.parser.specs.Promises.{Numbered, ZeroAfter, Opens, ChainsAnswered, RuleAnswered, EnoughAnswered, SameUnless, GiveUnless, StrictAnswered, AcceptsToo, StrictAccepted}
+use Rattle.parser.specs.Promises.{Numbered, ZeroAfter, Opens, ChainsAnswered, RuleAnswered, EndsAnswered, EndTells, EndsToldAnswered, EnoughAnswered}
+use Rattle.parser.specs.Promises.{SameUnless, GiveUnless, StrictAnswered, AcceptsToo, StrictAccepted}
 
 numbers-are : (P : Parsed Trees) → numbers (answered P) ≡ answer P
 unfolding answer
@@ -49,6 +51,38 @@ rule-answered rules ts start room words r ys =
 refusal : (P : Parsed Trees) {number place words : ℕ} {ys : List ℕ} → Entered P (Refused number place) words ys → P ≡ refused number place
 refusal (refused n p) e = let a = e .answer in cc
 refusal (read us at left) e = let a = e .answer in let z : _≡_ {A = ℕ} 0 1 = cc in absurd (omega arith)
+
+-- What is claimed of an acceptance's trees and pool, of the words that an entry has left.
+rows-end : (P : Parsed Trees) (start used place words left : ℕ) (ys : List ℕ) (us : Trees) → ys ≡ pool words P → P ≡ read us place left → used ≡ sizes us
+    → RowsEnd (pool words (read us place left)) start (sizes us) place → RowsEnd ys start used place
+rows-end P start used place words left ys us a b c h = rw (a, b, c) h
+
+opened-ends : (P : Parsed Trees) (start root used place words : ℕ) (ys : List ℕ)
+    → ((us : Trees) (left : ℕ) → P ≡ read us place left → RowsEnd (pool words (read us place left)) start (sizes us) place)
+    → Entered P (Accepted root used place) words ys → RowsEnd ys start used place
+opened-ends P start root used place words ys h e =
+    let o = opens P root used place words ys e in
+    rows-end P start used place words (o .left) ys (o .trees) (e .left) (o .was-read) (o .all-used) (h (o .trees) (o .left) (o .was-read))
+
+pub ends-answered : EndsAnswered
+ends-answered rules ts start room root used place words ys = (
+  opened-ends _ start root used place words ys (λ us left e. ends rules ts start room us place left .0 e words),
+  opened-ends _ start root used place words ys (λ us left e. ends rules ts start room us place left .1 e words),
+  opened-ends _ 0 root used place words ys (λ us left e. ends rules ts start room us place left .2 e words),
+)
+
+end-tells : (entry : (room : ℕ) → Parsed Trees) → EndsWhereLacking entry → EndTells entry
+end-tells entry h root used place words fewer r n ys zs a e f lo hi q =
+    let o = opens (entry (rows words)) root used place words ys e in
+    let x = h (rows words) words r n (o .trees) place (o .left) (o .was-read) lo (rw (← o .all-used) hi) in (
+      λ w. f .answer ∙ ap answered (ap entry q ∙ x .0 (rw (← e .left) w)),
+      λ w. rw (e .left) (x .1 (rw (← q) (refusal (entry (rows fewer)) (rw w at f)))),
+    )
+
+pub ends-told-answered : EndsToldAnswered
+ends-told-answered rules ts start =
+    let c = ends-told rules ts start in
+    (end-tells _ (c .0), end-tells _ (c .1), end-tells _ (c .2))
 
 either : {P : Parsed Trees} {A B : Type 0} {number place words : ℕ} {ys : List ℕ} → (A → ¬ (P ≡ refused number place)) → (B → ¬ (P ≡ refused number place))
     → A ⊎ B → ¬ Entered P (Refused number place) words ys

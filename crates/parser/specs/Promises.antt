@@ -7,8 +7,8 @@ use lib.ListN.{replicate}
 use Rattle.grammar.specs.Tree.{Trees, sizes, lay, width}
 use Rattle.grammar.specs.Parsed.{Parsed, read, NoRow, WrongSign}
 use Rattle.grammar.specs.Rules.{Rules}
-use Rattle.grammar.specs.Script.{one-expression, one-statement, whole-script, largest, rows, answer}
-use Rattle.grammar.specs.Claims.{Grouping, Part, RowsRuled, tokens-from, expression-rows, statement-rows, script-rows}
+use Rattle.grammar.specs.Script.{one-expression, one-statement, whole-script, largest, rows, answer, word-of}
+use Rattle.grammar.specs.Claims.{Grouping, Part, RowsRuled, RowsEnd, tokens-from, expression-rows, statement-rows, script-rows}
 use Rattle.modes.specs.declared.Mode.the-variants.{Old, Strict}
 use Rattle.modes.specs.Modes.{by}
 use Rattle.answer.specs.declared.Answer.{Answer}
@@ -48,6 +48,27 @@ RuleAnswered =
     → (Entered (one-expression rules ts start room) r words ys → RowsRuled ts ys)
     × (Entered (one-statement rules ts start room) r words ys → RowsRuled ts ys)
     × (Entered (whole-script rules ts room) r words ys → RowsRuled ts ys)
+
+-- In the pool of every acceptance no row's place is before the start or past its end, no end is past the answer's place, and ends never fall.
+abbrev pub EndsAnswered : Type 0
+EndsAnswered =
+    (rules : Rules) (ts : List ℕ) (start room root used place words : ℕ) (ys : List ℕ)
+    → (Entered (one-expression rules ts start room) (Accepted root used place) words ys → RowsEnd ys start used place)
+    × (Entered (one-statement rules ts start room) (Accepted root used place) words ys → RowsEnd ys start used place)
+    × (Entered (whole-script rules ts room) (Accepted root used place) words ys → RowsEnd ys 0 used place)
+
+-- A row that an entry has left ends at a place exactly where every result of the same call, lent just the rows before it, is the refusal 3 at that place.
+abbrev pub EndTells : ((room : ℕ) → Parsed Trees) → Type 0
+EndTells entry =
+    (root used place words fewer r n : ℕ) (ys zs : List ℕ) (a : Answer) → Entered (entry (rows words)) (Accepted root used place) words ys
+    → Entered (entry (rows fewer)) a fewer zs → 1 ≤ r → r ≤ used → rows fewer ≡ r - 1
+    → (word-of ys r 8 ≡ n → a ≡ Refused NoRow n) × (a ≡ Refused NoRow n → word-of ys r 8 ≡ n)
+
+-- The same of all three entries.
+abbrev pub EndsToldAnswered : Type 0
+EndsToldAnswered =
+    (rules : Rules) (ts : List ℕ) (start : ℕ)
+    → EndTells (λ room. one-expression rules ts start room) × EndTells (λ room. one-statement rules ts start room) × EndTells (λ room. whole-script rules ts room)
 
 -- An entry that is lent so many words has no result that refuses for want of a row.
 abbrev pub NeverFull : ((room : ℕ) → Parsed Trees) → (words : ℕ) → Type 0

@@ -6,12 +6,12 @@ use Prim.Native.Nat.{ℕ, zero, suc, _+_, _*_, _/_, _≤_, _<_}
 use native.Mathlib.Omega.{arith}
 use native.Mathlib.Nat.{add-zero}
 use lib.ListN.{length, take, drop}
-use Rattle.grammar.specs.Tree.{Tree, Trees, nil, _▸_, size, head-ref, row, lay, width}
+use Rattle.grammar.specs.Tree.{Tree, Trees, nil, _▸_, size, head-ref, row, lay, width, ended}
 use Rattle.grammar.specs.Parsed.{Parsed, refused, read, _>>=_, _>>_, need, build, choose}
 use Rattle.answer.specs.declared.Read.{Read}
 use Rattle.answer.specs.declared.Read.the-variants as the
 use Rattle.reader.specs.Meets.{Stands, Meets, Case, Front, lay-slots, after, four, Ending, one, Bounded, BoundedCase}
-use Rattle.reader.proofs.Slots.{slots-more, after-more, slots-behind, after-behind, slots-four, after-four, root-size, root-laid}
+use Rattle.reader.proofs.Slots.{slots-more, after-more, slots-behind, after-behind, slots-four, after-four, root-size, root-laid, root-ended}
 use Rattle.reader.proofs.Fronts.{front-same, front-more, front-eq}
 
 pub not-both : {A : Type 0} (r : Read) (n p k h : ℕ) (c : ℕ) → r ≡ the.Refused n p → r ≡ the.Tree k h c → A
@@ -145,7 +145,7 @@ onward s le lt = let o = s .on in record { front = s .front; ends = s .ends; spe
 -- The row that ends a tree is built, behind what stands before the tree.
 pub built : {ts : List ℕ} {from : ℕ} {ss : List Trees} {first k left : ℕ} {xs ys zs : List ℕ} {at : ℕ} {kind m p c0 c1 c2 c3 : ℕ} {t : Tree} {r : Read} (bs : List Trees)
     → Stands ts from (bs ++ ss) first k left xs ys at → Ending t kind m p ss (after bs first) c0 c1 c2 c3
-    → k < length ys / width → zs ≡ take (width * k) ys ++ (row kind m p c0 c1 c2 c3 0 ++ drop (width * k + width) ys) → r ≡ the.Tree (k + 1) (first + (k + 1)) at
+    → k < length ys / width → zs ≡ take (width * k) ys ++ (row kind m p c0 c1 c2 c3 0 at ++ drop (width * k + width) ys) → r ≡ the.Tree (k + 1) (first + (k + 1)) at
     → Meets one ts from (build t at left) bs first r xs zs
 unfolding build lay
 built {ts} {from} {ss} {first} {k} {left} {xs} {ys} {zs} {at} {kind} {m} {p} {c0} {c1} {c2} {c3} {t} {r} bs s end lt e is = record { met = go left refl }
@@ -159,21 +159,23 @@ built {ts} {from} {ss} {first} {k} {left} {xs} {ys} {zs} {at} {kind} {m} {p} {c0
         absurd y
     go (suc n) q =
         let g : ℕ = after bs first in
-        let w : List ℕ = row kind m p c0 c1 c2 c3 0 in
-        let z : g + size t ≡ first + (k + 1) =
-        root-size g (end .root) ∙ ap (λ (i : ℕ). i + 1) (after-four ss g (end .few) ∙ sym (after-behind bs ss first) ∙ sym (s .ends)) ∙ omega arith in
+        let w : List ℕ = row kind m p c0 c1 c2 c3 0 at in
+        let u : Tree = ended at t in
+        let root = root-ended at (end .root) in
+        let z : g + size u ≡ first + (k + 1) =
+        root-size g root ∙ ap (λ (i : ℕ). i + 1) (after-four ss g (end .few) ∙ sym (after-behind bs ss first) ∙ sym (s .ends)) ∙ omega arith in
         let fr : Front (lay-slots (bs ++ ss) first ++ w) (k + 1) xs zs = front-more w 1 (s .front) refl (omega arith) e in
-        let l : lay-slots (bs ++ ss) first ++ w ≡ lay-slots (bs ++ ((t ▸ nil) ∷ [])) first =
+        let l : lay-slots (bs ++ ss) first ++ w ≡ lay-slots (bs ++ ((u ▸ nil) ∷ [])) first =
         ap (λ (v : List ℕ). v ++ w) (slots-behind bs ss first ∙ ap (λ (v : List ℕ). lay-slots bs first ++ v) (sym (slots-four ss g (end .few))))
         ∙ append-assoc (lay-slots bs first) (lay-slots (four ss) g) w
-        ∙ ap (λ (v : List ℕ). lay-slots bs first ++ v) (sym (root-laid g c0 c1 c2 c3 (end .root) (end .refs)) ∙ sym (append-nil (lay t g 0)))
-        ∙ sym (slots-more bs (t ▸ nil) first) in
+        ∙ ap (λ (v : List ℕ). lay-slots bs first ++ v) (sym (root-laid g c0 c1 c2 c3 root (end .refs)) ∙ sym (append-nil (lay u g 0)))
+        ∙ sym (slots-more bs (u ▸ nil) first) in
         record {
           rows = k + 1;
           is = is ∙ ap (λ (i : ℕ). the.Tree (k + 1) i at) (sym z);
           stands = record {
             front = front-eq l fr;
-            ends = sym (after-more bs (t ▸ nil) first ∙ ap (λ (i : ℕ). g + i) (add-zero (size t)) ∙ z);
+            ends = sym (after-more bs (u ▸ nil) first ∙ ap (λ (i : ℕ). g + i) (add-zero (size u)) ∙ z);
             spent = omega (arith, s .spent);
             on = s .on;
             within = s .within;

@@ -35,6 +35,9 @@ ready-same h s w = let a = h .fits in let z = h .whole in record { sound = h .so
 pub small : {ts xs : List ℕ} {f at : ℕ} → Ready ts xs f at → at < 65536
 small h = omega (arith, h .within, h .sound .few)
 
+pub small-in : {ts xs : List ℕ} {f at b : ℕ} → Ready ts xs f at → b < length ts → b < 65536
+small-in h w = omega (arith, h .sound .few)
+
 -- A step from a token that is not EOF goes on.
 pub moves : {ts : List ℕ} {at : ℕ} → Sound ts → at < length ts → ((tok ts at ≡ EOF) → ⊥) → at < step ts at
 unfolding step

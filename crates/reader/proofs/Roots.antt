@@ -21,19 +21,20 @@ record Words : Type 0 where
   c1 : ℕ
   c2 : ℕ
   c3 : ℕ
+  end : ℕ
 
 abbrev words : Words → ℕ → ℕ → List ℕ
-words w m n = row (w .kind) m (w .place) (w .c0) (w .c1) (w .c2) (w .c3) n
+words w m n = row (w .kind) m (w .place) (w .c0) (w .c1) (w .c2) (w .c3) n (w .end)
 
 -- The rows of a tree before its last.
 body-of : Tree → ℕ → List ℕ
-body-of (infixed m p l r) f = lay l f 0 ++ lay r (f + size l) 0
-body-of (node k m p a b c d) f = lays a f ++ (lays b (f + sizes a) ++ (lays c (f + sizes a + sizes b) ++ lays d (f + sizes a + sizes b + sizes c)))
+body-of (infixed m p l r z) f = lay l f 0 ++ lay r (f + size l) 0
+body-of (node k m p a b c d z) f = lays a f ++ (lays b (f + sizes a) ++ (lays c (f + sizes a + sizes b) ++ lays d (f + sizes a + sizes b + sizes c)))
 
 -- The last row of a tree, and its mark.
 last-of : Tree → ℕ → Words
-last-of (infixed m p l r) f = record { kind = 12; place = p; c0 = f + size l; c1 = f + size l + size r; c2 = 0; c3 = 0 }
-last-of (node k m p a b c d) f =
+last-of (infixed m p l r z) f = record { kind = 12; place = p; c0 = f + size l; c1 = f + size l + size r; c2 = 0; c3 = 0; end = z }
+last-of (node k m p a b c d z) f =
     record {
       kind = k;
       place = p;
@@ -41,33 +42,34 @@ last-of (node k m p a b c d) f =
       c1 = head-ref b (f + sizes a);
       c2 = head-ref c (f + sizes a + sizes b);
       c3 = head-ref d (f + sizes a + sizes b + sizes c);
+      end = z;
     }
 
 mark-of : Tree → ℕ
-mark-of (infixed m p l r) = m
-mark-of (node k m p a b c d) = m
+mark-of (infixed m p l r z) = m
+mark-of (node k m p a b c d z) = m
 
 parted : (t : Tree) (f n : ℕ) → lay t f n ≡ body-of t f ++ words (last-of t f) (mark-of t) n
 unfolding lay body-of last-of mark-of
-parted (infixed m p l r) f n = simp append-assoc
-parted (node k m p a b c d) f n = simp append-assoc
+parted (infixed m p l r z) f n = simp append-assoc
+parted (node k m p a b c d z) f n = simp append-assoc
 
 -- A flag changes the mark of the last row, and nothing else.
 parted-flagged : (g : ℕ) (t : Tree) (f n : ℕ) → lay (flagged g t) f n ≡ body-of t f ++ words (last-of t f) (flag g (mark-of t)) n
 unfolding flagged body-of last-of mark-of
-parted-flagged g (infixed m p l r) f n = parted (infixed (flag g m) p l r) f n
-parted-flagged g (node k m p a b c d) f n = parted (node k (flag g m) p a b c d) f n
+parted-flagged g (infixed m p l r z) f n = parted (infixed (flag g m) p l r z) f n
+parted-flagged g (node k m p a b c d z) f n = parted (node k (flag g m) p a b c d z) f n
 
 pub flagged-size : (g : ℕ) (t : Tree) → size (flagged g t) ≡ size t
 unfolding flagged
-flagged-size g (infixed m p l r) = refl
-flagged-size g (node k m p a b c d) = refl
+flagged-size g (infixed m p l r z) = refl
+flagged-size g (node k m p a b c d z) = refl
 
 -- A tree is a call by its kind.
 called : (t : Tree) (f : ℕ) → is-call t ≡ eqb (last-of t f .kind) 11
 unfolding is-call last-of
-called (infixed m p l r) f = refl
-called (node k m p a b c d) f = refl
+called (infixed m p l r z) f = refl
+called (node k m p a b c d z) f = refl
 
 body-length : (t : Tree) (f : ℕ) → length (body-of t f) + width ≡ width * size t
 body-length t f = sym (length-append (body-of t f) (words (last-of t f) (mark-of t) 0)) ∙ ap length (sym (parted t f 0)) ∙ lay-length t f 0
@@ -100,7 +102,7 @@ module _ {ts : List ℕ} {from : ℕ} {first k left : ℕ} {xs ys : List ℕ} {a
       let w = last-of t first in
       called t first
       ∙ ap (λ (n : ℕ). eqb n 11) (sym (ap (λ (l : List ℕ). read l k kind-word) as-laid ∙ ap (λ (i : ℕ). read (body-of t first ++ (words w (mark-of t) 0 ++ rest)) i kind-word) ref
-      ∙ kind-there (body-of t first) rest (k - 1) before (w .kind) (mark-of t) (w .place) (w .c0) (w .c1) (w .c2) (w .c3) 0))
+      ∙ kind-there (body-of t first) rest (k - 1) before (w .kind) (mark-of t) (w .place) (w .c0) (w .c1) (w .c2) (w .c3) 0 (w .end)))
 
   -- a flag set in the last row is set in the tree
   pub stands-marked : (f : Flag) → Stands ts from ((flagged (bit f) t ▸ nil) ∷ []) first k left xs (marked ys k f) at
@@ -109,7 +111,7 @@ module _ {ts : List ℕ} {from : ℕ} {first k left : ℕ} {xs ys : List ℕ} {a
       let w = last-of t first in
       let e : marked ys k f ≡ (lay (flagged (bit f) t) first 0 ++ []) ++ [] ++ drop (width * k) xs =
       ap (λ (l : List ℕ). marked l k f) as-laid ∙ ap (λ (i : ℕ). marked (body-of t first ++ (words w (mark-of t) 0 ++ rest)) i f) ref
-      ∙ marked-there (body-of t first) rest (k - 1) before (w .kind) (mark-of t) (w .place) (w .c0) (w .c1) (w .c2) (w .c3) 0 f
+      ∙ marked-there (body-of t first) rest (k - 1) before (w .kind) (mark-of t) (w .place) (w .c0) (w .c1) (w .c2) (w .c3) 0 (w .end) f
       ∙ sym (append-assoc (body-of t first) (words w (flag (bit f) (mark-of t)) 0) rest)
       ∙ ap (λ (l : List ℕ). l ++ rest) (sym (parted-flagged (bit f) t first 0) ∙ sym (append-nil _) ∙ sym (append-nil _)) in
       let z = flagged-size (bit f) t in
@@ -187,7 +189,7 @@ link-joins t us vs f k q e =
     ap (λ (x : List ℕ). linked (x ++ (b ++ q)) k v) (alone t us f ∙ r .is 0)
     ∙ ap (λ (x : List ℕ). linked x k v) (append-assoc (r .body) (words w (r .mark) 0) (b ++ q))
     ∙ ap (λ (n : ℕ). linked (r .body ++ (words w (r .mark) 0 ++ (b ++ q))) n v) i
-    ∙ linked-there (r .body) (b ++ q) (k - 1) l (w .kind) (r .mark) (w .place) (w .c0) (w .c1) (w .c2) (w .c3) 0 v
+    ∙ linked-there (r .body) (b ++ q) (k - 1) l (w .kind) (r .mark) (w .place) (w .c0) (w .c1) (w .c2) (w .c3) 0 (w .end) v
     ∙ sym (append-assoc (r .body) (words w (r .mark) v) (b ++ q))
     ∙ ap (λ (x : List ℕ). x ++ (b ++ q)) (sym (r .is v))
     ∙ sym (append-assoc (lays-to t us f v) b q)

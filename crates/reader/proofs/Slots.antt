@@ -5,15 +5,15 @@ use Prim.Native.Nat.{ℕ, _+_, _*_, _<_}
 use native.Mathlib.Omega.{arith}
 use native.Mathlib.Nat.{add-zero}
 use lib.ListN.{length, length-append}
-use Rattle.grammar.specs.Tree.{Tree, infixed, node, Trees, nil, _▸_, size, sizes, head-ref, row, lay, lays, width}
+use Rattle.grammar.specs.Tree.{Tree, infixed, node, Trees, nil, _▸_, size, sizes, head-ref, row, lay, lays, width, ended}
 use Rattle.reader.specs.Meets.{lay-slots, after, four, Root, of-node, of-infix, Refs, Few}
 
 mutual
   unfolding lay
 
   pub lay-length : (t : Tree) (f n : ℕ) → length (lay t f n) ≡ width * size t
-  lay-length (infixed m p l r) f n = simp length-append (omega (arith, lay-length l f 0, lay-length r (f + size l) 0))
-  lay-length (node k m p a b c d) f n =
+  lay-length (infixed m p l r z) f n = simp length-append (omega (arith, lay-length l f 0, lay-length r (f + size l) 0))
+  lay-length (node k m p a b c d z) f n =
       simp length-append
       (omega (arith, lays-length a f, lays-length b (f + sizes a), lays-length c (f + sizes a + sizes b), lays-length d (f + sizes a + sizes b + sizes c)))
 
@@ -22,8 +22,8 @@ mutual
   lays-length (t ▸ us) f = simp length-append (omega (arith, lay-length t f (head-ref us (f + size t)), lays-length us (f + size t)))
 
 pub some-rows : (t : Tree) → 0 < size t
-some-rows (infixed m p l r) = omega arith
-some-rows (node k m p a b c d) = omega arith
+some-rows (infixed m p l r z) = omega arith
+some-rows (node k m p a b c d z) = omega arith
 
 -- One slot more.
 pub slots-more : (ss : List Trees) (b : Trees) (f : ℕ) → lay-slots (ss ++ (b ∷ [])) f ≡ lay-slots ss f ++ lays b (after ss f)
@@ -62,12 +62,17 @@ after-four (a ∷ b ∷ c ∷ d ∷ []) f h = refl
 after-four (a ∷ b ∷ c ∷ d ∷ e ∷ ss) f h = absurd h
 
 -- A root stands behind its slots.
-pub root-size : {t : Tree} {k m p : ℕ} {ss : List Trees} (f : ℕ) → Root t k m p ss → f + size t ≡ after ss f + 1
+pub root-size : {t : Tree} {k m p z : ℕ} {ss : List Trees} (f : ℕ) → Root t k m p z ss → f + size t ≡ after ss f + 1
 root-size f of-node = omega arith
 root-size f of-infix = omega arith
 
-pub root-laid : {t : Tree} {k m p : ℕ} {ss : List Trees} (f c0 c1 c2 c3 : ℕ) → Root t k m p ss → Refs ss f c0 c1 c2 c3
-    → lay t f 0 ≡ lay-slots ss f ++ row k m p c0 c1 c2 c3 0
+pub root-laid : {t : Tree} {k m p z : ℕ} {ss : List Trees} (f c0 c1 c2 c3 : ℕ) → Root t k m p z ss → Refs ss f c0 c1 c2 c3
+    → lay t f 0 ≡ lay-slots ss f ++ row k m p c0 c1 c2 c3 0 z
 unfolding lay
 root-laid f c0 c1 c2 c3 of-node e = rw (e .0, e .1, e .2, e .3) (simp (append-nil, append-assoc))
 root-laid f c0 c1 c2 c3 of-infix e = rw (e .0, e .1, e .2, e .3) (simp (append-nil, append-assoc, add-zero))
+
+-- The root of a tree that ends at a place.
+pub root-ended : {t : Tree} {k m p z : ℕ} {ss : List Trees} (at : ℕ) → Root t k m p z ss → Root (ended at t) k m p at ss
+root-ended at of-node = of-node
+root-ended at of-infix = of-infix

@@ -52,7 +52,7 @@ Ends reader ts at first rows kind mark place c0 c1 c2 c3 r xs ys =
 unfoldable pub around : (rec : Rec) (kind mark place : ℕ) → Reader Tree
 around rec kind mark place at room = do
   (t, at, room) ← rec Zero at room
-  build (node kind mark place (t ▸ nil) nil nil nil) at room
+  build (node kind mark place (t ▸ nil) nil nil nil 0) at room
 
 -- A row whose closing sign comes next.
 unfoldable pub closed : (ts : List ℕ) (close number : ℕ) → Tree → Reader Tree
@@ -112,8 +112,8 @@ var-or-const rules ts expr stmt kind name room = do
   choose (next-is ts name SSemiColon)
       (λ _. do
         need (not (eqb kind 35)) ConstWithoutValue (step ts name)
-        build (node kind 0 name nil nil nil nil) (step ts name) room)
-      (λ _. value rules ts expr stmt (λ v. node kind 0 name v nil nil nil) (step ts name) room)
+        build (node kind 0 name nil nil nil nil 0) (step ts name) room)
+      (λ _. value rules ts expr stmt (λ v. node kind 0 name v nil nil nil 0) (step ts name) room)
 
 -- The keywords of statements that may not end right behind them.
 unfoldable pub further : ℕ → Bool

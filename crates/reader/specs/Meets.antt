@@ -78,10 +78,10 @@ four (a ∷ b ∷ []) = a ∷ b ∷ nil ∷ nil ∷ []
 four (a ∷ b ∷ c ∷ []) = a ∷ b ∷ c ∷ nil ∷ []
 four (a ∷ b ∷ c ∷ d ∷ rest) = a ∷ b ∷ c ∷ d ∷ []
 
--- A tree's root: its kind, its mark, its place and its slots.
-pub data Root : Tree → ℕ → ℕ → ℕ → List Trees → Type 0 where
-  of-node : {k m p : ℕ} {a b c d : Trees} → Root (node k m p a b c d) k m p (a ∷ b ∷ c ∷ d ∷ [])
-  of-infix : {m p : ℕ} {l r : Tree} → Root (infixed m p l r) 12 m p ((l ▸ nil) ∷ (r ▸ nil) ∷ nil ∷ nil ∷ [])
+-- A tree's root: its kind, its mark, its place, its end and its slots.
+pub data Root : Tree → ℕ → ℕ → ℕ → ℕ → List Trees → Type 0 where
+  of-node : {k m p z : ℕ} {a b c d : Trees} → Root (node k m p a b c d z) k m p z (a ∷ b ∷ c ∷ d ∷ [])
+  of-infix : {m p z : ℕ} {l r : Tree} → Root (infixed m p l r z) 12 m p z ((l ▸ nil) ∷ (r ▸ nil) ∷ nil ∷ nil ∷ [])
 
 -- References to four slots that begin behind `first` rows.
 abbrev pub Refs : List Trees → ℕ → ℕ → ℕ → ℕ → ℕ → Type 0
@@ -101,10 +101,10 @@ Few (a ∷ b ∷ c ∷ []) = Unit {0}
 Few (a ∷ b ∷ c ∷ d ∷ []) = Unit {0}
 Few (a ∷ b ∷ c ∷ d ∷ e ∷ rest) = ⊥
 
--- A row of these words ends a tree whose slots are laid.
+-- A row of these words ends a tree whose slots are laid, once it is built.
 pub record Ending (t : Tree) (kind mark place : ℕ) (slots : List Trees) (first c0 c1 c2 c3 : ℕ) : Type 0 where
   pub few : Few slots
-  pub root : Root t kind mark place (four slots)
+  pub root : Root t kind mark place 0 (four slots)
   pub refs : Refs (four slots) first c0 c1 c2 c3
 
 -- The numbers of an answer fit: its rows are in the part, and its cursor is not before the place and in the array.

@@ -21,7 +21,7 @@ ghost use Rattle.reader.specs.Meets.{Ready, one};
 ghost use Rattle.reader.specs.Contracts.{Fresh, Ends};
 ghost use Rattle.reader.specs.Contracts as contract;
 
-// A row behind the first `rows` rows of a part, before which the pool has `first` rows.
+// A row behind the first `rows` rows of a part, before which the pool has `first` rows. It ends at the current token.
 pub fn put_row(
     pool: &mut [u32],
     first: usize,
@@ -35,7 +35,7 @@ pub fn put_row(
     c2: u32,
     c3: u32,
 ) -> Read
-    requires { ⌜ (width * first + length (now pool) ≤ largest) × (place < 65536) ⌝ }
+    requires { ⌜ (width * first + length (now pool) ≤ largest) × (place < 65536) × (c < 65536) ⌝ }
     ensures { λ r. ⌜ ((ts : List ℕ) → c < length ts → Ends build ts c first rows kind mark place c0 c1 c2 c3 r (now (pool .entry)) (now (pool .exit))) ⌝ }
 {
     let row = Row {
@@ -46,6 +46,7 @@ pub fn put_row(
         c1: c1,
         c2: c2,
         c3: c3,
+        end: c as u32,
     };
     let b = rows::build(pool, rows, row, c);
     match b {

@@ -121,7 +121,7 @@ fn value(
     less: usize,
 ) -> Read
     requires { ⌜ Ready (now tokens) (now pool) first c ⌝ }
-    ensures { λ r. ⌜ Fresh one (λ at. spec.value (by mode) (now (tokens .entry)) (expression (by mode) (now (tokens .entry)) less) (spec.statement (by mode) (now (tokens .entry)) less) (λ v. node kind 0 at v nil nil nil) (step (now (tokens .entry)) at)) (now (tokens .entry)) c first r (now (pool .entry)) (now (pool .exit)) ⌝ }
+    ensures { λ r. ⌜ Fresh one (λ at. spec.value (by mode) (now (tokens .entry)) (expression (by mode) (now (tokens .entry)) less) (spec.statement (by mode) (now (tokens .entry)) less) (λ v. node kind 0 at v nil nil nil 0) (step (now (tokens .entry)) at)) (now (tokens .entry)) c first r (now (pool .entry)) (now (pool .exit)) ⌝ }
 {
     let d = words::iterate(tokens, c);
     if !words::current_symbol_is(tokens, d, Symbol::SEq) {

@@ -113,20 +113,20 @@ module _ (p ws q : List ℕ) (j : ℕ) (behind : length p ≡ width * j) where
   stored-there k v h = rw (its-place k, set-behind p (ws ++ q) k v, set-append-left ws q k v h)
 
 -- what becomes of a row that stands behind the first j rows
-module _ (p q : List ℕ) (j : ℕ) (behind : length p ≡ width * j) (kind mark place c0 c1 c2 c3 next : ℕ) where
+module _ (p q : List ℕ) (j : ℕ) (behind : length p ≡ width * j) (kind mark place c0 c1 c2 c3 next end : ℕ) where
   -- its words
   abbrev ws : List ℕ
-  ws = row kind mark place c0 c1 c2 c3 next
+  ws = row kind mark place c0 c1 c2 c3 next end
 
   pub kind-there : read (p ++ (ws ++ q)) (j + 1) kind-word ≡ kind
   unfolding read
   kind-there = rw (is-there p ws q j behind refl) (read-there p ws q j behind kind-word (omega arith))
 
-  pub linked-there : (v : ℕ) → linked (p ++ (ws ++ q)) (j + 1) v ≡ p ++ (row kind mark place c0 c1 c2 c3 v ++ q)
+  pub linked-there : (v : ℕ) → linked (p ++ (ws ++ q)) (j + 1) v ≡ p ++ (row kind mark place c0 c1 c2 c3 v end ++ q)
   unfolding linked
   linked-there v = rw (is-there p ws q j behind refl) (stored-there p ws q j behind next-word v (omega arith))
 
-  pub marked-there : (f : Flag) → marked (p ++ (ws ++ q)) (j + 1) f ≡ p ++ (row kind (flag (bit f) mark) place c0 c1 c2 c3 next ++ q)
+  pub marked-there : (f : Flag) → marked (p ++ (ws ++ q)) (j + 1) f ≡ p ++ (row kind (flag (bit f) mark) place c0 c1 c2 c3 next end ++ q)
   unfolding marked
   marked-there f =
       rw (is-there p ws q j behind refl, read-there p ws q j behind mark-word (omega arith)) (stored-there p ws q j behind mark-word (flag (bit f) mark) (omega arith))

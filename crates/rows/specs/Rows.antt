@@ -28,7 +28,7 @@ next-word = 7
 
 -- The words of a row that is built: no row is next.
 abbrev pub words : Row → List ℕ
-words r = row (r .kind) (r .mark) (r .place) (r .c0) (r .c1) (r .c2) (r .c3) 0
+words r = row (r .kind) (r .mark) (r .place) (r .c0) (r .c1) (r .c2) (r .c3) 0 (r .end)
 
 -- A pool with these words for the row behind the first `rows` rows.
 abbrev pub placed : (xs : List ℕ) (rows : ℕ) (ws : List ℕ) → List ℕ

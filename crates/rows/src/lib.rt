@@ -8,22 +8,24 @@ ghost use Rattle.grammar.specs.Script.{rows, seat};
 ghost use Rattle.rows.specs.Rows.{words, Builds, is-row, linked, marked, bit, read};
 
 // How many words a row takes.
-pub const WIDTH: usize = 8;
+pub const WIDTH: usize = 9;
 
 // The most rows of a pool.
 pub const MOST: usize = 65535;
 
-// Where in its row each word stands that is read or changed later.
+// Where in its row some words stand.
 pub const KIND: usize = 0;
 
 const MARK: usize = 1;
 
 const NEXT: usize = 7;
 
+const END: usize = 8;
+
 // The number of the refusal where no row is free.
 const NO_ROW: u32 = 3;
 
-// A row to build: its words but the last, which says that no row is next.
+// A row to build: its words but the one that says that no row is next.
 pub struct Row {
     pub kind: u32,
     pub mark: u32,
@@ -32,6 +34,7 @@ pub struct Row {
     pub c1: u32,
     pub c2: u32,
     pub c3: u32,
+    pub end: u32,
 }
 
 // How many rows are there now; or a refusal, by its number and place.
@@ -75,6 +78,7 @@ fn fill(part: &mut [u32], row: Row)
     part[5] = row.c2;
     part[6] = row.c3;
     part[NEXT] = 0;
+    part[END] = row.end;
 }
 
 // A row behind the first `rows` rows of the pool, or a refusal at `place` where no row is free.

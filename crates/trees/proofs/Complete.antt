@@ -251,7 +251,8 @@ module _ (pool : List ℕ) where
     pub n3 : counts (sl r 3 .many) (how-many d) ≡ true
     pub f3 : all-fit (sl r 3 .kinds) d ≡ true
 
-  open-node : (k : Takes) (r : ℕ) (a b c d : Trees) {t : Tree} → t ≡ node (word-of pool r 0) (word-of pool r 1) (word-of pool r 2) a b c d → fits k t ≡ true → Opened k r a b c d
+  open-node : (k : Takes) (r : ℕ) (a b c d : Trees) {t : Tree} → t ≡ node (word-of pool r 0) (word-of pool r 1) (word-of pool r 2) a b c d (word-of pool r 8) → fits k t ≡ true
+      → Opened k r a b c d
   unfolding fits
   open-node k r a b c d q f =
       let e = eleven _ _ _ _ _ _ _ _ _ _ _ (sym (ap (fits k) q) ∙ f) in
@@ -263,7 +264,7 @@ module _ (pool : List ℕ) where
   four-hold true false c d h = no-both (sym h)
   four-hold false b c d h = no-both (sym h)
 
-  open-infix : (k : Takes) (r : ℕ) (a b : Tree) {t : Tree} → word-of pool r 0 ≡ 12 → t ≡ infixed (word-of pool r 1) (word-of pool r 2) a b → fits k t ≡ true
+  open-infix : (k : Takes) (r : ℕ) (a b : Tree) {t : Tree} → word-of pool r 0 ≡ 12 → t ≡ infixed (word-of pool r 1) (word-of pool r 2) a b (word-of pool r 8) → fits k t ≡ true
       → Opened k r (a ▸ nil) (b ▸ nil) nil nil
   unfolding fits counts all-fit
   open-infix k r a b x q f =

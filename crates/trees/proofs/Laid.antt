@@ -26,24 +26,24 @@ use Rattle.trees.proofs.Exact.{exact}
 use Rattle.trees.proofs.Different.{rows-in, has-split, join}
 
 some-rows : (t : Tree) → 1 ≤ size t
-some-rows (infixed m p l r) = omega arith
-some-rows (node k m p a b c d) = omega arith
+some-rows (infixed m p l r z) = omega arith
+some-rows (node k m p a b c d z) = omega arith
 
 head-behind : (ts : Trees) (i : ℕ) → (head-ref ts i ≡ 0) ⊎ (i < head-ref ts i)
 head-behind nil i = inl refl
 head-behind (t ▸ ts) i = inr (omega (arith, some-rows t))
 
 -- what is in a tree that fits
-infix-fit : (k : Takes) (m p : ℕ) (a b : Tree) → fits k (infixed m p a b) ≡ true → (fits expressions a ≡ true) × (fits expressions b ≡ true)
+infix-fit : (k : Takes) (m p : ℕ) (a b : Tree) (z : ℕ) → fits k (infixed m p a b z) ≡ true → (fits expressions a ≡ true) × (fits expressions b ≡ true)
 unfolding fits
-infix-fit k m p a b f =
+infix-fit k m p a b z f =
     let e = both-hold (takes k 12 m && marked 12 m && fits expressions a) (fits expressions b) f in
     (both-hold (takes k 12 m && marked 12 m) (fits expressions a) (e .0) .1, e .1)
 
-node-fit : (k : Takes) (kd m p : ℕ) (a b c d : Trees) → fits k (node kd m p a b c d) ≡ true
+node-fit : (k : Takes) (kd m p : ℕ) (a b c d : Trees) (z : ℕ) → fits k (node kd m p a b c d z) ≡ true
     → (eqb kd 12 ≡ false) × (all-fit (slot kd 0 .kinds) a ≡ true) × (all-fit (slot kd 1 .kinds) b ≡ true) × (all-fit (slot kd 2 .kinds) c ≡ true) × (all-fit (slot kd 3 .kinds) d ≡ true)
 unfolding fits
-node-fit k kd m p a b c d f =
+node-fit k kd m p a b c d z f =
     let e =
     eleven (takes k kd m) (not (eqb kd 12)) (marked kd m) (counts (slot kd 0 .many) (how-many a)) (all-fit (slot kd 0 .kinds) a) (counts (slot kd 1 .many) (how-many b))
     (all-fit (slot kd 1 .kinds) b) (counts (slot kd 2 .many) (how-many c)) (all-fit (slot kd 2 .kinds) c) (counts (slot kd 3 .many) (how-many d)) (all-fit (slot kd 3 .kinds) d) f in
@@ -128,11 +128,11 @@ module _ (ws : List ℕ) where
 
     lay-lies : (t : Tree) (k : Takes) (first next r : ℕ) → r ≡ first + size t → Held ws first (lay t first next) → fits k t ≡ true → r ≤ count ws → (next ≡ 0) ⊎ (r < next)
         → Lies t first next r
-    lay-lies (infixed m p a b) k first next r e h f l n =
-        let w = two ws m p a b first next h in
-        let o : Words ws r 12 m p (first + size a) (first + size a + size b) 0 0 next = rw e (w .own) in
-        let q : infixed m p a b ≡ infixed (word-of ws r 1) (word-of ws r 2) a b = rw (o .mark-word, o .place-word) in
-        let g = infix-fit k m p a b f in
+    lay-lies (infixed m p a b z) k first next r e h f l n =
+        let w = two ws m p a b z first next h in
+        let o : Words ws r 12 m p (first + size a) (first + size a + size b) 0 0 next z = rw e (w .own) in
+        let q : infixed m p a b z ≡ infixed (word-of ws r 1) (word-of ws r 2) a b (word-of ws r 8) = rw (o .mark-word, o .place-word, o .end-word) in
+        let g = infix-fit k m p a b z f in
         let c₀ = word-of ws r 3 in
         let c₁ = word-of ws r 4 in
         let ta = lay-lies a expressions first 0 c₀ (o .c0-word) (w .left) (g .0) (omega (arith, o .c0-word)) (inl refl) in
@@ -146,14 +146,15 @@ module _ (ws : List ℕ) where
           spread = row-spread la lb lc ld (omega (arith, e)) (subst (λ (x : ℕ). (x ≡ 0) ⊎ (r < x)) (sym (o .next-word)) n);
           next-is = o .next-word;
         }
-    lay-lies (node kd m p a b c d) k first next r e h f l n =
-        let w = four ws kd m p a b c d first next h in
+    lay-lies (node kd m p a b c d z) k first next r e h f l n =
+        let w = four ws kd m p a b c d z first next h in
         let i = first + sizes a in
         let j = first + sizes a + sizes b in
         let v = first + sizes a + sizes b + sizes c in
-        let o : Words ws r kd m p (head-ref a first) (head-ref b i) (head-ref c j) (head-ref d v) next = rw e (w .own) in
-        let q : node kd m p a b c d ≡ node (word-of ws r 0) (word-of ws r 1) (word-of ws r 2) a b c d = rw (o .kind-word, o .mark-word, o .place-word) in
-        let g = node-fit k kd m p a b c d f in
+        let o : Words ws r kd m p (head-ref a first) (head-ref b i) (head-ref c j) (head-ref d v) next z = rw e (w .own) in
+        let q : node kd m p a b c d z ≡ node (word-of ws r 0) (word-of ws r 1) (word-of ws r 2) a b c d (word-of ws r 8) =
+        rw (o .kind-word, o .mark-word, o .place-word, o .end-word) in
+        let g = node-fit k kd m p a b c d z f in
         let la = lays-lie a (slot kd 0 .kinds) first (word-of ws r 3) (o .c0-word) (w .c0) (g .1) (omega arith) in
         let lb = lays-lie b (slot kd 1 .kinds) i (word-of ws r 4) (o .c1-word) (w .c1) (g .2) (omega arith) in
         let lc = lays-lie c (slot kd 2 .kinds) j (word-of ws r 5) (o .c2-word) (w .c2) (g .3) (omega arith) in

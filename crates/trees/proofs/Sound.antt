@@ -63,17 +63,18 @@ or-left : (a b : Bool) → (a || b) ≡ true → b ≡ false → a ≡ true
 or-left true b h n = refl
 or-left false b h n = no-both (sym h ∙ n)
 
-infix-fits : (k : Takes) (m p : ℕ) (a b : Tree) → takes k 12 m ≡ true → marked 12 m ≡ true → fits expressions a ≡ true → fits expressions b ≡ true → fits k (infixed m p a b) ≡ true
+infix-fits : (k : Takes) (m p : ℕ) (a b : Tree) (z : ℕ) → takes k 12 m ≡ true → marked 12 m ≡ true → fits expressions a ≡ true → fits expressions b ≡ true
+    → fits k (infixed m p a b z) ≡ true
 unfolding fits
-infix-fits k m p a b t n f g = rw (t, n, f, g)
+infix-fits k m p a b z t n f g = rw (t, n, f, g)
 
-node-fits : (k : Takes) (kind m p : ℕ) (a b c d : Trees) → takes k kind m ≡ true → (kind ≡ 12 → ⊥) → marked kind m ≡ true
+node-fits : (k : Takes) (kind m p : ℕ) (a b c d : Trees) (z : ℕ) → takes k kind m ≡ true → (kind ≡ 12 → ⊥) → marked kind m ≡ true
     → counts (slot kind 0 .many) (how-many a) ≡ true → all-fit (slot kind 0 .kinds) a ≡ true
     → counts (slot kind 1 .many) (how-many b) ≡ true → all-fit (slot kind 1 .kinds) b ≡ true
     → counts (slot kind 2 .many) (how-many c) ≡ true → all-fit (slot kind 2 .kinds) c ≡ true
-    → counts (slot kind 3 .many) (how-many d) ≡ true → all-fit (slot kind 3 .kinds) d ≡ true → fits k (node kind m p a b c d) ≡ true
+    → counts (slot kind 3 .many) (how-many d) ≡ true → all-fit (slot kind 3 .kinds) d ≡ true → fits k (node kind m p a b c d z) ≡ true
 unfolding fits
-node-fits k kind m p a b c d t n o a₀ a₁ b₀ b₁ c₀ c₁ d₀ d₁ = rw (t, ne-eqb kind 12 n, o, a₀, a₁, b₀, b₁, c₀, c₁, d₀, d₁)
+node-fits k kind m p a b c d z t n o a₀ a₁ b₀ b₁ c₀ c₁ d₀ d₁ = rw (t, ne-eqb kind 12 n, o, a₀, a₁, b₀, b₁, c₀, c₁, d₀, d₁)
 
 pub infix-slots : (k : ℕ) → k ≡ 12 → (slot k 0 ≡ one of expressions) × (slot k 1 ≡ one of expressions) × (slot k 2 ≡ no of names) × (slot k 3 ≡ no of names)
 unfolding slot kind-of of-expressions of-statements
@@ -254,17 +255,17 @@ module _ (pool : List ℕ) where
               let c = none-of (subst (λ (y : Slot). Slotted y (word-of pool r 5)) (sl .2) c₂) in
               let d = none-of (subst (λ (y : Slot). Slotted y (word-of pool r 6)) (sl .3) c₃) in
               record {
-                tree = infixed (word-of pool r 1) (word-of pool r 2) (a .tree) (b .tree);
+                tree = infixed (word-of pool r 1) (word-of pool r 2) (a .tree) (b .tree) (word-of pool r 8);
                 holds = infix-row (a .tree) (b .tree) e (a .holds) (b .holds) c d refl;
-                fit = infix-fits (s .kinds) (word-of pool r 1) (word-of pool r 2) (a .tree) (b .tree) (rw e at t) (rw e at (parts .0)) (a .fit) (b .fit);
+                fit = infix-fits (s .kinds) (word-of pool r 1) (word-of pool r 2) (a .tree) (b .tree) (word-of pool r 8) (rw e at t) (rw e at (parts .0)) (a .fit) (b .fit);
               }
 
           other-own : (k₀ ≡ 12 → ⊥) → Own s
           other-own n =
               record {
-                tree = node k₀ (word-of pool r 1) (word-of pool r 2) (c₀ .trees) (c₁ .trees) (c₂ .trees) (c₃ .trees);
+                tree = node k₀ (word-of pool r 1) (word-of pool r 2) (c₀ .trees) (c₁ .trees) (c₂ .trees) (c₃ .trees) (word-of pool r 8);
                 holds = row (c₀ .trees) (c₁ .trees) (c₂ .trees) (c₃ .trees) n (c₀ .holds) (c₁ .holds) (c₂ .holds) (c₃ .holds) refl;
-                fit = node-fits (s .kinds) k₀ (word-of pool r 1) (word-of pool r 2) (c₀ .trees) (c₁ .trees) (c₂ .trees) (c₃ .trees) t n (parts .0) (c₀ .number) (c₀ .fit) (c₁ .number) (c₁ .fit) (c₂ .number) (c₂ .fit) (c₃ .number) (c₃ .fit);
+                fit = node-fits (s .kinds) k₀ (word-of pool r 1) (word-of pool r 2) (c₀ .trees) (c₁ .trees) (c₂ .trees) (c₃ .trees) (word-of pool r 8) t n (parts .0) (c₀ .number) (c₀ .fit) (c₁ .number) (c₁ .fit) (c₂ .number) (c₂ .fit) (c₃ .number) (c₃ .fit);
               }
 
       -- those behind it

@@ -10,7 +10,7 @@ use Rattle.slots.specs.Slots.{any-root, one, Slot, _of_, slot, marked}
 use Rattle.slots.specs.Fine.{is-list, child-fine, next-fine, taken}
 
 module _ (pool : List ℕ) where
-  -- The references of the pool's rows. The words of a row: 0 kind, 1 mark, 2 place, 3 to 6 children, 7 next.
+  -- The references of the pool's rows. The words of a row: 0 kind, 1 mark, 2 place, 3 to 6 children, 7 next, 8 end.
   abbrev pub count : ℕ
   count = rows (length pool)
 
@@ -63,9 +63,9 @@ module _ (pool : List ℕ) where
     -- The tree that a row holds, and the trees from a row on by next words; 0 is the end.
     pub data Holds : ℕ → Tree → Type 0 where
       infix-row : {r : ℕ} {t : Tree} (a b : Tree) → word-of pool r 0 ≡ 12 → HoldsAll (word-of pool r 3) (a ▸ nil) → HoldsAll (word-of pool r 4) (b ▸ nil)
-          → HoldsAll (word-of pool r 5) nil → HoldsAll (word-of pool r 6) nil → t ≡ infixed (word-of pool r 1) (word-of pool r 2) a b → Holds r t
+          → HoldsAll (word-of pool r 5) nil → HoldsAll (word-of pool r 6) nil → t ≡ infixed (word-of pool r 1) (word-of pool r 2) a b (word-of pool r 8) → Holds r t
       row : {r : ℕ} {t : Tree} (a b c d : Trees) → (word-of pool r 0 ≡ 12 → ⊥) → HoldsAll (word-of pool r 3) a → HoldsAll (word-of pool r 4) b
-          → HoldsAll (word-of pool r 5) c → HoldsAll (word-of pool r 6) d → t ≡ node (word-of pool r 0) (word-of pool r 1) (word-of pool r 2) a b c d → Holds r t
+          → HoldsAll (word-of pool r 5) c → HoldsAll (word-of pool r 6) d → t ≡ node (word-of pool r 0) (word-of pool r 1) (word-of pool r 2) a b c d (word-of pool r 8) → Holds r t
 
     pub data HoldsAll : ℕ → Trees → Type 0 where
       none : {r : ℕ} {us : Trees} → r ≡ 0 → us ≡ nil → HoldsAll r us

@@ -34,7 +34,7 @@ abbrev pub WritesText : Type 0
 WritesText =
     (pool : List ℕ) (root w p n : ℕ) (ws ps : List ℕ) → Writes pool root w p (wrote.Tokens n) ws ps → (t : Tree) × IsTree pool root t × Text t n ws ps
 
--- A tree has come back: an entry accepts its n tokens, and leaves a tree that is the same but for places and grouped marks, with zeros behind it.
+-- A tree has come back: an entry accepts its n tokens, and leaves a tree that is the same but for places, ends and grouped marks, with zeros behind it.
 pub record CameBack (t : Tree) (n : ℕ) (r : Answer) (lent : ℕ) (ys : List ℕ) : Type 0 where
   pub tree : Tree
   pub at : ℕ

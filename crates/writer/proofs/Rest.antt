@@ -10,7 +10,7 @@ use lib.ListN.{length, getD, drop, length-drop}
 use native.Mathlib.Numerals.{add-one}
 use borrow.Author.Tests.{eqb-true, eqb-false, ne-eqb, eq-eqb, ltb-true, lt-ltb, leb-true, le-leb, le-ltb}
 use Rattle.grammar.specs.Words.{EOF, SComma, SDot}
-use Rattle.grammar.specs.Tree.{Tree, infixed, node, Trees, nil, _▸_, size, sizes}
+use Rattle.grammar.specs.Tree.{Tree, infixed, node, Trees, nil, _▸_, size, sizes, width}
 use Rattle.grammar.specs.Script.{word-of, rows}
 use Rattle.slots.specs.Slots.{Takes, expressions, statements, blocks, pairs, names, plain-identifier, any-root, Many, no, one, at-most-one, any, some, Slot, _of_, slot, kind-of, of-expressions, of-statements, takes, is-expression, is-statement, marked, counts, how-many, fits, all-fit}
 use Rattle.trees.specs.Pool.{count, In, Reached, start, on, Link, root-link, word-link, Twice, Bad, twice, Holds, infix-row, row, HoldsAll, none, more}
@@ -110,9 +110,9 @@ record Fit (s : Takes) (k m : ℕ) (f : ℕ → Trees) : Type 0 where
   pub counted : (i : ℕ) → i ≤ 3 → counts (slot k i .many) (how-many (f (3 + i))) ≡ true
   pub fitting : (i : ℕ) → i ≤ 3 → all-fit (slot k i .kinds) (f (3 + i)) ≡ true
 
-node-fit : (s : Takes) (k m p : ℕ) (a b c d : Trees) → fits s (node k m p a b c d) ≡ true → Fit s k m (four a b c d)
+node-fit : (s : Takes) (k m p : ℕ) (a b c d : Trees) (z : ℕ) → fits s (node k m p a b c d z) ≡ true → Fit s k m (four a b c d)
 unfolding fits
-node-fit s k m p a b c d h =
+node-fit s k m p a b c d z h =
     let (h₁, d₁) = and-eq-true-iff _ (all-fit (slot k 3 .kinds) d) .0 h in
     let (h₂, d₀) = and-eq-true-iff _ (counts (slot k 3 .many) (how-many d)) .0 h₁ in
     let (h₃, c₁) = and-eq-true-iff _ (all-fit (slot k 2 .kinds) c) .0 h₂ in
@@ -129,9 +129,9 @@ node-fit s k m p a b c d h =
       fitting = by-slot (λ i. all-fit (slot k i .kinds) (four a b c d (3 + i)) ≡ true) a₁ b₁ c₁ d₁;
     }
 
-infix-fit : (s : Takes) (m p : ℕ) (a b : Tree) → fits s (infixed m p a b) ≡ true → Fit s 12 m (four (a ▸ nil) (b ▸ nil) nil nil)
+infix-fit : (s : Takes) (m p : ℕ) (a b : Tree) (z : ℕ) → fits s (infixed m p a b z) ≡ true → Fit s 12 m (four (a ▸ nil) (b ▸ nil) nil nil)
 unfolding fits all-fit counts slot kind-of of-expressions
-infix-fit s m p a b h =
+infix-fit s m p a b z h =
     let (h₁, b₁) = and-eq-true-iff _ (fits expressions b) .0 h in
     let (h₂, a₁) = and-eq-true-iff _ (fits expressions a) .0 h₁ in
     let (t, n) = and-eq-true-iff (takes s 12 m) (marked 12 m) .0 h₂ in
@@ -141,23 +141,23 @@ infix-fit s m p a b h =
       fitting = by-slot (λ i. all-fit (slot 12 i .kinds) (four (a ▸ nil) (b ▸ nil) nil nil (3 + i)) ≡ true) (rw a₁) (rw b₁) refl refl;
     }
 
-infix-written : (m p : ℕ) (a b : Tree)
-    → write (infixed m p a b) ≡ pieces (form 12) m p (writes (a ▸ nil) ∷ writes (b ▸ nil) ∷ writes nil ∷ writes nil ∷ [])
+infix-written : (m p : ℕ) (a b : Tree) (z : ℕ)
+    → write (infixed m p a b z) ≡ pieces (form 12) m p (writes (a ▸ nil) ∷ writes (b ▸ nil) ∷ writes nil ∷ writes nil ∷ [])
 unfolding write writes form forms look pieces piece
-infix-written m p a b = refl
+infix-written m p a b z = refl
 
-node-written : (k m p : ℕ) (a b c d : Trees) → write (node k m p a b c d) ≡ pieces (form k) m p (writes a ∷ writes b ∷ writes c ∷ writes d ∷ [])
+node-written : (k m p : ℕ) (a b c d : Trees) (z : ℕ) → write (node k m p a b c d z) ≡ pieces (form k) m p (writes a ∷ writes b ∷ writes c ∷ writes d ∷ [])
 unfolding write
-node-written k m p a b c d = refl
+node-written k m p a b c d z = refl
 
-infix-whole : (m p : ℕ) (a b : Tree) → written (infixed m p a b) ≡ write (infixed m p a b) ++ ((EOF, 0) ∷ [])
+infix-whole : (m p : ℕ) (a b : Tree) (z : ℕ) → written (infixed m p a b z) ≡ write (infixed m p a b z) ++ ((EOF, 0) ∷ [])
 unfolding written
-infix-whole m p a b = refl
+infix-whole m p a b z = refl
 
-node-whole : (k m p : ℕ) (a b c d : Trees)
-    → written (node k m p a b c d) ≡ cond (eqb k 46) (joined (writes a)) (write (node k m p a b c d)) ++ ((EOF, 0) ∷ [])
+node-whole : (k m p : ℕ) (a b c d : Trees) (z : ℕ)
+    → written (node k m p a b c d z) ≡ cond (eqb k 46) (joined (writes a)) (write (node k m p a b c d z)) ++ ((EOF, 0) ∷ [])
 unfolding written
-node-whole k m p a b c d = refl
+node-whole k m p a b c d z = refl
 
 module _ (pool : List ℕ) (root : ℕ) where
   -- A row of a tree, by its words: what its slots hold, and what it is written as.
@@ -230,7 +230,8 @@ module _ (pool : List ℕ) (root : ℕ) where
     sight {s} {r} {t} i h (infix-row a b e ha hb hc hd q) f =
         let m = word-of pool r 1 in
         let p = word-of pool r 2 in
-        let g = infix-fit s m p a b (rw q at f) in
+        let z = word-of pool r 8 in
+        let g = infix-fit s m p a b z (rw q at f) in
         record {
           inside = i;
           reached = h;
@@ -240,15 +241,16 @@ module _ (pool : List ℕ) (root : ℕ) where
           held = by-four (λ k. HoldsAll pool (word-of pool r k) (four (a ▸ nil) (b ▸ nil) nil nil k)) ha hb hc hd;
           counted = rw e (g .counted);
           fitting = rw e (g .fitting);
-          texted = rw (q, e) (infix-written m p a b);
-          wholly = rw (q, e) (infix-whole m p a b);
+          texted = rw (q, e) (infix-written m p a b z);
+          wholly = rw (q, e) (infix-whole m p a b z);
           sized = ap size q ∙ omega arith;
         }
     sight {s} {r} {t} i h (row a b c d n ha hb hc hd q) f =
         let k = word-of pool r 0 in
         let m = word-of pool r 1 in
         let p = word-of pool r 2 in
-        let g = node-fit s k m p a b c d (rw q at f) in
+        let z = word-of pool r 8 in
+        let g = node-fit s k m p a b c d z (rw q at f) in
         record {
           inside = i;
           reached = h;
@@ -258,8 +260,8 @@ module _ (pool : List ℕ) (root : ℕ) where
           held = by-four (λ k. HoldsAll pool (word-of pool r k) (four a b c d k)) ha hb hc hd;
           counted = g .counted;
           fitting = g .fitting;
-          texted = rw q (node-written k m p a b c d);
-          wholly = rw q (node-whole k m p a b c d);
+          texted = rw q (node-written k m p a b c d z);
+          wholly = rw q (node-whole k m p a b c d z);
           sized = ap size q;
         }
 
@@ -450,7 +452,7 @@ module _ (pool : List ℕ) (root : ℕ) where
       told-by p k t h lo hi e it (by-two x y two) = absurd (good t (on h lo hi e it) (twice two))
       told-by p k t h lo hi e it (by-one h′ i′ lo′ hi′ e′ n u) = let y = u p k h lo hi e in (sym (y .0), sym (y .1))
 
-      into-at : (r j k : ℕ) → In pool r → k < 8 → into pool r j k ≡ cond (eqb (word-of pool r k) 0) ([], r, j + 1) ([], word-of pool r k, 0)
+      into-at : (r j k : ℕ) → In pool r → k < width → into pool r j k ≡ cond (eqb (word-of pool r k) 0) ([], r, j + 1) ([], word-of pool r k, 0)
       unfolding into
       into-at r j k i h = rw (read-in pool r k i h)
 

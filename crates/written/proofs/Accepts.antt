@@ -3,7 +3,7 @@ use Prim.Native.Nat.{ℕ, zero, suc}
 use mathlib.Core.Path.{_≡_, refl}
 use mathlib.Core.Bool.{Bool, true, false}
 use mathlib.Core.List.{List, [], _∷_}
-use Rattle.grammar.specs.Tree.{Tree}
+use Rattle.grammar.specs.Tree.{Tree, ended}
 use Rattle.grammar.specs.Parsed.{Parsed, refused, read, Reader, _>>=_, _>>_, Check, met, failed, need, build, choose, Arm, _⇒_}
 
 -- What holds of what a reader gives, where it accepts.
@@ -43,7 +43,7 @@ module _ {A : Type 0} (R : Fact A) where
   gives-choose true x y h k = h refl
   gives-choose false x y h k = k refl
 
-pub gives-build : (R : Fact Tree) (t : Tree) (at room : ℕ) → R t at → Gives R (build t at room)
+pub gives-build : (R : Fact Tree) (t : Tree) (at room : ℕ) → R (ended at t) at → Gives R (build t at room)
 unfolding build
 gives-build R t at zero h = tt
 gives-build R t at (suc m) h = h

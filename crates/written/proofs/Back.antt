@@ -1,4 +1,4 @@
--- What reads a written tree: from a place up to a place, as the same tree but for places and grouped marks.
+-- What reads a written tree: from a place up to a place, as the same tree but for places, ends and grouped marks.
 use Prim.Native.Nat.{ℕ, zero, suc, _+_, _-_, _≤_, _<_}
 use native.Mathlib.Omega.{arith}
 use mathlib.Core.Path.{_≡_, refl, ap, _∙_}

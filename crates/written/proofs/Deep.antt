@@ -129,9 +129,9 @@ module _ (rules : Rules) (room left : ℕ) where
   unfolding written entry-of asked is-expression
   root-deeper (an-expression {t} o w e) short q l = x-deeper t o w e short q l
   root-deeper (a-statement {t} o w e) short q l = s-deeper t o w e short q l
-  root-deeper (a-script {m} {p} {us} e o) short q l =
+  root-deeper (a-script {m} {p} {end} {us} e o) short q l =
       let xs = joined (writes us) in
-      let z = by-script rules (words (ended xs)) (length xs) room left us (array xs (fine-statements us) short) o (rw (script-deep m p us) at l) (omega arith) in
+      let z = by-script rules (words (ended xs)) (length xs) room left us (array xs (fine-statements us) short) o (rw (script-deep m p us end) at l) (omega arith) in
       record { place = z .place; refuses = z .refuses; inside = omega (arith, z .inside, words-length xs, ended-length xs) }
 
 pub deep-refused : DeepRefused

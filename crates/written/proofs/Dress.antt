@@ -1,4 +1,4 @@
--- A tree as it is read back: without its places, and with a grouped mark just where it is written in brackets.
+-- A tree as it is read back: without its places and ends, and with a grouped mark just where it is written in brackets.
 use Prim.Native.Nat.{ℕ, _+_, _/_, _%_}
 use native.Mathlib.Omega.{arith}
 use mathlib.Core.Path.{_≡_, refl, sym, ap, _∙_}
@@ -13,8 +13,8 @@ brackets k = leb 10 k && ltb k 17
 
 unfoldable mutual
   pub seen : Tree → Tree
-  seen (infixed m p l r) = infixed m 0 (seen l) (seen r)
-  seen (node k m p a b c d) = node k m 0 (seens a) (seens b) (seens c) (seens d)
+  seen (infixed m p l r n) = infixed m 0 (seen l) (seen r) 0
+  seen (node k m p a b c d n) = node k m 0 (seens a) (seens b) (seens c) (seens d) 0
 
   pub seens : Trees → Trees
   seens nil = nil
@@ -22,8 +22,8 @@ unfoldable mutual
 
 unfoldable mutual
   pub dressed : Tree → Tree
-  dressed (infixed m p l r) = infixed (m % 256 + 256) 0 (dressed l) (dressed r)
-  dressed (node k m p a b c d) = node k (cond (brackets k) (m % 256 + 256) (m % 256)) 0 (dresseds a) (dresseds b) (dresseds c) (dresseds d)
+  dressed (infixed m p l r n) = infixed (m % 256 + 256) 0 (dressed l) (dressed r) 0
+  dressed (node k m p a b c d n) = node k (cond (brackets k) (m % 256 + 256) (m % 256)) 0 (dresseds a) (dresseds b) (dresseds c) (dresseds d) 0
 
   pub dresseds : Trees → Trees
   dresseds nil = nil
@@ -31,12 +31,12 @@ unfoldable mutual
 
 -- The same before its own brackets are closed.
 unfoldable pub inner : Tree → Tree
-inner (infixed m p l r) = infixed (m % 256) 0 (dressed l) (dressed r)
-inner (node k m p a b c d) = node k (m % 256) 0 (dresseds a) (dresseds b) (dresseds c) (dresseds d)
+inner (infixed m p l r n) = infixed (m % 256) 0 (dressed l) (dressed r) 0
+inner (node k m p a b c d n) = node k (m % 256) 0 (dresseds a) (dresseds b) (dresseds c) (dresseds d) 0
 
 unfoldable pub wrapped : Tree → Bool
-wrapped (infixed m p l r) = true
-wrapped (node k m p a b c d) = brackets k
+wrapped (infixed m p l r n) = true
+wrapped (node k m p a b c d n) = brackets k
 
 group-mark : (m : ℕ) → flag Grouped (m % 256) ≡ m % 256 + 256
 unfolding flag
@@ -44,14 +44,14 @@ group-mark m = let z : m % 256 / 256 % 2 ≡ 0 = omega arith in rw z
 
 pub regroup : (u t : Tree) → wrapped t ≡ true → seen u ≡ inner t → seen (flagged Grouped u) ≡ dressed t
 unfolding seen inner dressed flagged wrapped
-regroup (infixed m q l r) (infixed m′ p l′ r′) z e =
+regroup (infixed m q l r n) (infixed m′ p l′ r′ n′) z e =
     let a : m ≡ m′ % 256 = cc in
     let b : seen l ≡ dressed l′ = cc in
     let c : seen r ≡ dressed r′ = cc in
     rw (a, b, c, group-mark m′)
-regroup (infixed m q l r) (node k m′ p x y z w) h e = let z : _≡_ {A = ℕ} 0 1 = cc in absurd (omega arith)
-regroup (node k m q x y z w) (infixed m′ p l r) h e = let z : _≡_ {A = ℕ} 0 1 = cc in absurd (omega arith)
-regroup (node k m q x y z w) (node k′ m′ p x′ y′ z′ w′) h e =
+regroup (infixed m q l r n) (node k m′ p x y z w n′) h e = let z : _≡_ {A = ℕ} 0 1 = cc in absurd (omega arith)
+regroup (node k m q x y z w n) (infixed m′ p l r n′) h e = let z : _≡_ {A = ℕ} 0 1 = cc in absurd (omega arith)
+regroup (node k m q x y z w n) (node k′ m′ p x′ y′ z′ w′ n′) h e =
     let i : k ≡ k′ = cc in
     let a : m ≡ m′ % 256 = cc in
     let b : seens x ≡ dresseds x′ = cc in
@@ -64,8 +64,8 @@ mutual
   unfolding plain seen
 
   plain-seen : (t : Tree) → plain (seen t) ≡ plain t
-  plain-seen (infixed m p l r) = rw (plain-seen l, plain-seen r)
-  plain-seen (node k m p a b c d) = rw (plains-seen a, plains-seen b, plains-seen c, plains-seen d)
+  plain-seen (infixed m p l r n) = rw (plain-seen l, plain-seen r)
+  plain-seen (node k m p a b c d n) = rw (plains-seen a, plains-seen b, plains-seen c, plains-seen d)
 
   plains-seen : (us : Trees) → plains (seens us) ≡ plains us
   plains-seen nil = refl
@@ -79,8 +79,8 @@ mutual
   unfolding plain dressed
 
   plain-dressed : (t : Tree) → plain (dressed t) ≡ plain t
-  plain-dressed (infixed m p l r) = rw (plain-dressed l, plain-dressed r, mark-same true m)
-  plain-dressed (node k m p a b c d) = rw (plains-dressed a, plains-dressed b, plains-dressed c, plains-dressed d, mark-same (brackets k) m)
+  plain-dressed (infixed m p l r n) = rw (plain-dressed l, plain-dressed r, mark-same true m)
+  plain-dressed (node k m p a b c d n) = rw (plains-dressed a, plains-dressed b, plains-dressed c, plains-dressed d, mark-same (brackets k) m)
 
   plains-dressed : (us : Trees) → plains (dresseds us) ≡ plains us
   plains-dressed nil = refl

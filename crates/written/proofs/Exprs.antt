@@ -8,7 +8,7 @@ use lib.Dec.{eqb}
 use lib.ListN.{length, getD}
 use Rattle.grammar.specs.Words.{Identifier, SLParen, SRparen, SSemiColon, SComma, SDot, SIncr, SDecr, SExcl, SNeg, SLBox, SRBox, SLBrace, SRBrace, SImpl, SColon, SDollar}
 use Rattle.grammar.specs.Words.{KThread, KAsync, KLambda, tok, step, is, next-is, Zero, order, infix-of}
-use Rattle.grammar.specs.Tree.{Tree, infixed, node, Trees, nil, _▸_, size, sizes, join, flag, flagged, Thread, Async, is-call}
+use Rattle.grammar.specs.Tree.{Tree, infixed, node, Trees, nil, _▸_, ended, size, sizes, join, flag, flagged, Thread, Async, is-call}
 use Rattle.grammar.specs.Parsed.{Reader, read, _>>=_, _>>_, need, build, choose, match, turns}
 use Rattle.grammar.specs.Rules.{Rules, fits}
 use Rattle.grammar.specs.Expressions.{Rec, get-identifier, dots, dot-expression, entries, pair, hash-literal, array, lambda, started, prefix, command, shell, prefix-part}
@@ -39,7 +39,7 @@ module _ (rules : Rules) (ts : List ℕ) (short : length ts ≤ turns) where
   -- ---- values and dotted names
 
   value-part : {w : ℕ} {made : ℕ → Tree} (d at left : ℕ) → Value w made → tok ts at ≡ w → eqb (tok ts (step ts at)) SDot ≡ false
-      → Part ts rules d at (suc left) ≡ read (made at) at left
+      → Part ts rules d at (suc left) ≡ read (ended at (made at)) at left
   unfolding prefix-part match choose build dot-expression get-identifier need _>>_ _>>=_ is next-is
   value-part d at left an-identifier e h = rw (e, h)
   value-part d at left an-integer e h = rw e
@@ -51,7 +51,7 @@ module _ (rules : Rules) (ts : List ℕ) (short : length ts ≤ turns) where
   value-part d at left a-none e h = rw e
 
   name-at : {t : Tree} → Named t → (at c : ℕ) → Stood ts at (write t) c
-      → (tok ts at ≡ Identifier) × (at < step ts at) × (step ts at ≡ c) × (seen (node 18 0 at nil nil nil nil) ≡ dressed t) × (size t ≡ 1)
+      → (tok ts at ≡ Identifier) × (at < step ts at) × (step ts at ≡ c) × (seen (node 18 0 at nil nil nil nil at) ≡ dressed t) × (size t ≡ 1)
   unfolding write writes form look forms pieces piece seen seens dressed dresseds inner
   name-at (a-name {m} {p} e) at c (i, j, h) = (i, j, h, rw e, refl)
 
@@ -60,7 +60,7 @@ module _ (rules : Rules) (ts : List ℕ) (short : length ts ≤ turns) where
   dots-none before n last c room e dot = rw (e, dot)
 
   dots-one : (before : Trees) (n last at room : ℕ) → step ts last ≡ at → tok ts at ≡ SDot → tok ts (step ts at) ≡ Identifier
-      → dots ts (suc n) before last (suc room) ≡ dots ts n (join before (node 18 0 (step ts at) nil nil nil nil ▸ nil)) (step ts at) room
+      → dots ts (suc n) before last (suc room) ≡ dots ts n (join before (node 18 0 (step ts at) nil nil nil nil (step ts at) ▸ nil)) (step ts at) room
   unfolding dots choose next-is is get-identifier need _>>_ _>>=_ build
   dots-one before n last at room e sign i = rw (e, sign, i)
 
@@ -70,28 +70,28 @@ module _ (rules : Rules) (ts : List ℕ) (short : length ts ≤ turns) where
   names-read nil before (suc n) last at c e f h o m dot = lot-none ts (e ∙ h) f (λ room. dots-none before n last c room (e ∙ h) dot)
   names-read (t ▸ us) before (suc n) last at c e f ((sign, on), (b′, k, rest)) o m dot =
       let (i, further, g, same, one) = name-at (named t (fit-head o)) (step ts at) b′ k in
-      let new = node 18 0 (step ts at) nil nil nil nil in
+      let new = node 18 0 (step ts at) nil nil nil nil (step ts at) in
       let v = names-read us (join before (new ▸ nil)) n (step ts at) b′ c g further rest (fit-tail o) (omega arith) dot in
       lot-one ts new same (λ room left q. let z : room ≡ suc left = omega arith in rw z (dots-one before n last at left e sign i)) v
 
   attribute-part : (d at e n last left : ℕ) (us : Trees) → tok ts at ≡ Identifier → step ts at ≡ e → tok ts e ≡ SDot
       → dots ts turns nil at n ≡ read (join nil us) last (suc left)
-      → Part ts rules d at (suc n) ≡ read (node 17 0 at (node 2 0 at nil nil nil nil ▸ nil) us nil nil) last left
+      → Part ts rules d at (suc n) ≡ read (node 17 0 at (node 2 0 at nil nil nil nil at ▸ nil) us nil nil last) last left
   unfolding prefix-part match choose build dot-expression get-identifier need _>>_ _>>=_ is next-is join
   attribute-part d at e n last left us i g s h = rw (i, g, s, h)
 
-  attribute-first : (d m p q at c : ℕ) (u : Tree) (us : Trees) → m % 256 ≡ 0 → AllFit names (u ▸ us)
-      → Stood ts at (write (node 17 m p (node 2 0 q nil nil nil nil ▸ nil) (u ▸ us) nil nil)) c → eqb (tok ts c) SDot ≡ false
-      → Upto ts (Part ts rules d) at c (node 17 m p (node 2 0 q nil nil nil nil ▸ nil) (u ▸ us) nil nil)
-  unfolding form look forms seen seens dressed dresseds inner
+  attribute-first : {n n′ : ℕ} (d m p q at c : ℕ) (u : Tree) (us : Trees) → m % 256 ≡ 0 → AllFit names (u ▸ us)
+      → Stood ts at (write (node 17 m p (node 2 0 q nil nil nil nil n ▸ nil) (u ▸ us) nil nil n′)) c → eqb (tok ts c) SDot ≡ false
+      → Upto ts (Part ts rules d) at c (node 17 m p (node 2 0 q nil nil nil nil n ▸ nil) (u ▸ us) nil nil n′)
+  unfolding form look forms writes seen seens dressed dresseds inner
   attribute-first d m p q at c u us e o h dot =
-      let (b1, k, (s1, (b2, y, r))) = formed ts 17 m p (node 2 0 q nil nil nil nil ▸ nil) (u ▸ us) nil nil at c h in
+      let (b1, k, (s1, (b2, y, r))) = formed ts 17 m p (node 2 0 q nil nil nil nil 0 ▸ nil) (u ▸ us) nil nil at c h in
       let ((i, j), g) = identified-at ts q at b1 k in
       let rest : Behind ts SDot (u ▸ us) b1 c = (s1, behind ts SDot (step ts b1) c u us (rw r at y)) in
       let in-range : how-many (u ▸ us) < turns = omega (arith, members ts SDot b1 c (u ▸ us) rest, behind-within ts SDot b1 c (u ▸ us) (rw g at (step-inside ts at j)) rest, rw g at j) in
       let v = names-read (u ▸ us) nil turns at b1 c g j rest o in-range dot in
       record {
-        tree = node 17 0 at (node 2 0 at nil nil nil nil ▸ nil) (v .trees) nil nil;
+        tree = node 17 0 at (node 2 0 at nil nil nil nil at ▸ nil) (v .trees) nil nil (v .last);
         last = v .last;
         same = rw (v .same, e);
         stops = v .stops;
@@ -101,14 +101,14 @@ module _ (rules : Rules) (ts : List ℕ) (short : length ts ≤ turns) where
 
   -- ---- lists
 
-  array-first : (d m p at c : ℕ) (us : Trees) → m % 256 ≡ 0 → AllFit expressions us → deeps us ≤ d → Item ts (ex d Zero) expressions d
-      → Stood ts at (write (node 8 m p us nil nil nil)) c → Upto ts (Part ts rules d) at c (node 8 m p us nil nil nil)
+  array-first : {n : ℕ} (d m p at c : ℕ) (us : Trees) → m % 256 ≡ 0 → AllFit expressions us → deeps us ≤ d → Item ts (ex d Zero) expressions d
+      → Stood ts at (write (node 8 m p us nil nil nil n)) c → Upto ts (Part ts rules d) at c (node 8 m p us nil nil nil n)
   unfolding form look forms writes prefix-part match choose build array need _>>_ _>>=_ is next-is seen seens dressed dresseds inner join
   array-first d m p at c nil e o l item h =
       let (i, (b1, y, (s1, r))) = formed ts 8 m p nil nil nil nil at c h in
       let g = empty-list ts SComma (step ts at) b1 y in
       record {
-        tree = node 8 0 at nil nil nil nil;
+        tree = node 8 0 at nil nil nil nil b1;
         last = b1;
         same = rw e;
         stops = r;
@@ -120,7 +120,7 @@ module _ (rules : Rules) (ts : List ℕ) (short : length ts ≤ turns) where
       let x = list-head ts SComma t us o (step ts at) b1 y in
       let v = list-read ts rules short d at b1 SRBox t us item o l y (s1 .0) (closes by-rbox) refl refl (differs starter (tok ts (step ts at)) SRparen x refl) in
       record {
-        tree = node 8 0 at (v .trees) nil nil nil;
+        tree = node 8 0 at (v .trees) nil nil nil b1;
         last = b1;
         same = rw (v .same, e);
         stops = r;
@@ -129,7 +129,7 @@ module _ (rules : Rules) (ts : List ℕ) (short : length ts ≤ turns) where
       }
 
   pair-part : (d at a r b c room left : ℕ) (k v : Tree) → ex d Zero at room ≡ read k a r → step ts a ≡ b → tok ts b ≡ SColon → ex d Zero (step ts b) r ≡ read v c (suc left)
-      → pair rules ts (ex d) at room ≡ read (node 19 0 b (k ▸ nil) (v ▸ nil) nil nil) c left
+      → pair rules ts (ex d) at room ≡ read (node 19 0 b (k ▸ nil) (v ▸ nil) nil nil c) c left
   unfolding build pair need _>>_ _>>=_ is next-is
   pair-part d at a r b c room left k v h s i g = rw (h, s, i, g)
 
@@ -143,7 +143,7 @@ module _ (rules : Rules) (ts : List ℕ) (short : length ts ≤ turns) where
           let u = item k at b1 ok lk (single ts at b1 k x) (rw (s1 .0) (closes by-colon)) in
           let w = item v (step ts b1) c ov lv (rw r at (single ts (step ts b1) b2 v y)) close in
           record {
-            tree = node 19 0 b1 (u .tree ▸ nil) (w .tree ▸ nil) nil nil;
+            tree = node 19 0 b1 (u .tree ▸ nil) (w .tree ▸ nil) nil nil (w .last);
             last = w .last;
             same = rw (u .same, w .same, e);
             stops = w .stops;
@@ -154,18 +154,18 @@ module _ (rules : Rules) (ts : List ℕ) (short : length ts ≤ turns) where
 
   hash-part : (d at a r b room left : ℕ) (t : Tree) (us : Trees) → tok ts at ≡ SLBrace → eqb (tok ts (step ts at)) SRBrace ≡ false
       → pair rules ts (ex d) (step ts at) room ≡ read t a r → (last : ℕ) → entries rules ts (ex d) (pair rules ts (ex d)) turns (t ▸ nil) a r ≡ read us last (suc left)
-      → step ts last ≡ b → tok ts b ≡ SRBrace → Part ts rules d at room ≡ read (node 9 0 at us nil nil nil) b left
+      → step ts last ≡ b → tok ts b ≡ SRBrace → Part ts rules d at room ≡ read (node 9 0 at us nil nil nil b) b left
   unfolding prefix-part match choose build hash-literal need _>>_ _>>=_ is next-is
   hash-part d at a r b room left t us i x h last g s k = rw (i, x, h, g, s, k)
 
-  hash-first : (d m p at c : ℕ) (us : Trees) → m % 256 ≡ 0 → AllFit pairs us → deeps us ≤ d → Item ts (ex d Zero) expressions d
-      → Stood ts at (write (node 9 m p us nil nil nil)) c → Upto ts (Part ts rules d) at c (node 9 m p us nil nil nil)
+  hash-first : {n : ℕ} (d m p at c : ℕ) (us : Trees) → m % 256 ≡ 0 → AllFit pairs us → deeps us ≤ d → Item ts (ex d Zero) expressions d
+      → Stood ts at (write (node 9 m p us nil nil nil n)) c → Upto ts (Part ts rules d) at c (node 9 m p us nil nil nil n)
   unfolding form look forms writes prefix-part match choose build hash-literal need _>>_ _>>=_ is next-is seen seens dressed dresseds inner join deeps
   hash-first d m p at c nil e o l item h =
       let (i, (b1, y, (s1, r))) = formed ts 9 m p nil nil nil nil at c h in
       let g = empty-list ts SComma (step ts at) b1 y in
       record {
-        tree = node 9 0 at nil nil nil nil;
+        tree = node 9 0 at nil nil nil nil b1;
         last = b1;
         same = rw e;
         stops = r;
@@ -182,7 +182,7 @@ module _ (rules : Rules) (ts : List ℕ) (short : length ts ≤ turns) where
       let in-range : how-many us < turns = omega (arith, members ts SComma b2 b1 us rest, inside ts SRBrace b1 (s1 .0) refl) in
       let v = entries-read ts rules (ex d) (pair rules ts (ex d)) pairs d (pair-read d item) us (u .tree ▸ nil) turns (u .last) b2 b1 (u .stops) (u .on) rest (fit-tail o) (omega arith) in-range close comma in
       record {
-        tree = node 9 0 at (u .tree ▸ v .trees) nil nil nil;
+        tree = node 9 0 at (u .tree ▸ v .trees) nil nil nil b1;
         last = b1;
         same = rw (u .same, v .same, e);
         stops = r;
@@ -202,51 +202,51 @@ module _ (rules : Rules) (ts : List ℕ) (short : length ts ≤ turns) where
     closed : (c : ℕ) → tok ts c ≡ SRparen → Closes (tok ts c)
     closed c h = rw h end
 
-    infix-inner : (m p at c1 c : ℕ) (l r : Tree) → m % 256 < 23 → Fit expressions l → Fit expressions r → deep l ≤ suc e → deep r ≤ e
+    infix-inner : {n : ℕ} (m p at c1 c : ℕ) (l r : Tree) → m % 256 < 23 → Fit expressions l → Fit expressions r → deep l ≤ suc e → deep r ≤ e
         → Stood ts at (write l) c1 → tok ts c1 ≡ getD infix-signs (m % 256) 0 → Stood ts (step ts c1) (write r) c → tok ts c ≡ SRparen
-        → Uptil ts inner (ex (suc e) Zero) at c (infixed m p l r)
+        → Uptil ts inner (ex (suc e) Zero) at c (infixed m p l r n)
     unfolding operation match choose infix-expression build _>>=_ seen seens dressed dresseds inner
-    infix-inner m p at c1 c l r i ol or dl dr hl s hr close =
+    infix-inner {n} m p at c1 c l r i ol or dl dr hl s hr close =
         let w = operator (m % 256) i in
         let u = first l at c1 ol dl hl (rw s (w .dot)) in
         let v = item (order (getD infix-signs (m % 256) 0)) r (step ts c1) c or dr hr (closed c close) in
         let mark : infix-of (getD infix-signs (m % 256) 0) - 1 ≡ m % 256 = omega (arith, w .mark) in
         let small : m % 256 % 256 ≡ m % 256 = omega arith in
-        climbed ts rules e at c1 c (size r + 1) (v .last) l (infixed m p l r) (infixed (m % 256) c1 (u .tree) (v .tree)) u (rw s (w .semi)) (rw s (w .on)) (omega arith)
+        climbed ts rules e at c1 c (size r + 1) (v .last) l (infixed m p l r n) (infixed (m % 256) c1 (u .tree) (v .tree) (v .last)) u (rw s (w .semi)) (rw s (w .on)) (omega arith)
         (λ left. rw (s, w .incr, w .decr, w .call, w .index, v .reads (size r + 1 + left) (suc left) (omega arith), mark))
         (rw (u .same, v .same)) (v .stops) (v .on) (closed c close)
 
-    index-inner : (m p at c1 c2 : ℕ) (l i : Tree) → m % 256 ≡ 0 → Fit expressions l → Fit expressions i → deep l ≤ suc e → deep i ≤ e
+    index-inner : {n : ℕ} (m p at c1 c2 : ℕ) (l i : Tree) → m % 256 ≡ 0 → Fit expressions l → Fit expressions i → deep l ≤ suc e → deep i ≤ e
         → Stood ts at (write l) c1 → tok ts c1 ≡ SLBox → Stood ts (step ts c1) (write i) c2 → tok ts c2 ≡ SRBox → c2 < step ts c2 → tok ts (step ts c2) ≡ SRparen
-        → Uptil ts inner (ex (suc e) Zero) at (step ts c2) (node 10 m p (l ▸ nil) (i ▸ nil) nil nil)
+        → Uptil ts inner (ex (suc e) Zero) at (step ts c2) (node 10 m p (l ▸ nil) (i ▸ nil) nil nil n)
     unfolding operation match choose index need _>>_ build _>>=_ next-is is seen seens dressed dresseds inner
-    index-inner m p at c1 c2 l i z ol oi dl di hl s hi s2 on close =
+    index-inner {n} m p at c1 c2 l i z ol oi dl di hl s hi s2 on close =
         let u = first l at c1 ol dl hl (rw s) in
         let v = item Zero i (step ts c1) c2 oi di hi (rw s2 (closes by-rbox)) in
-        climbed ts rules e at c1 (step ts c2) (size i + 1) c2 l (node 10 m p (l ▸ nil) (i ▸ nil) nil nil) (node 10 0 c1 (u .tree ▸ nil) (v .tree ▸ nil) nil nil) u
+        climbed ts rules e at c1 (step ts c2) (size i + 1) c2 l (node 10 m p (l ▸ nil) (i ▸ nil) nil nil n) (node 10 0 c1 (u .tree ▸ nil) (v .tree ▸ nil) nil nil c2) u
         (rw s) (rw s (goers .index)) (omega arith)
         (λ left. rw (s, v .reads (size i + 1 + left) (suc left) (omega arith), v .stops, s2))
         (rw (u .same, v .same, z)) refl on (closed (step ts c2) close)
 
-    suffix-inner : (m p at c1 : ℕ) (l : Tree) → m % 256 < 2 → Fit expressions l → deep l ≤ suc e
+    suffix-inner : {n : ℕ} (m p at c1 : ℕ) (l : Tree) → m % 256 < 2 → Fit expressions l → deep l ≤ suc e
         → Stood ts at (write l) c1 → tok ts c1 ≡ getD (SIncr ∷ SDecr ∷ []) (m % 256) 0 → c1 < step ts c1 → tok ts (step ts c1) ≡ SRparen
-        → Uptil ts inner (ex (suc e) Zero) at (step ts c1) (node 14 m p (l ▸ nil) nil nil nil)
+        → Uptil ts inner (ex (suc e) Zero) at (step ts c1) (node 14 m p (l ▸ nil) nil nil nil n)
     unfolding operation match choose suffix-expression build _>>=_ seen seens dressed dresseds inner
-    suffix-inner m p at c1 l i ol dl hl s on close = go (m % 256) refl s
+    suffix-inner {n} m p at c1 l i ol dl hl s on close = go (m % 256) refl s
       where
-        go : (j : ℕ) → m % 256 ≡ j → tok ts c1 ≡ getD (SIncr ∷ SDecr ∷ []) j 0 → Uptil ts inner (ex (suc e) Zero) at (step ts c1) (node 14 m p (l ▸ nil) nil nil nil)
+        go : (j : ℕ) → m % 256 ≡ j → tok ts c1 ≡ getD (SIncr ∷ SDecr ∷ []) j 0 → Uptil ts inner (ex (suc e) Zero) at (step ts c1) (node 14 m p (l ▸ nil) nil nil nil n)
         go zero q s =
             let u = first l at c1 ol dl hl (rw s) in
-            climbed ts rules e at c1 (step ts c1) 1 c1 l (node 14 m p (l ▸ nil) nil nil nil) (node 14 0 c1 (u .tree ▸ nil) nil nil nil) u
+            climbed ts rules e at c1 (step ts c1) 1 c1 l (node 14 m p (l ▸ nil) nil nil nil n) (node 14 0 c1 (u .tree ▸ nil) nil nil nil c1) u
             (rw s) (rw s (goers .incr)) (omega arith) (λ left. let z : 1 + left ≡ suc left = omega arith in rw (z, s)) (rw (u .same, q)) refl on (closed (step ts c1) close)
         go (suc zero) q s =
             let u = first l at c1 ol dl hl (rw s) in
-            climbed ts rules e at c1 (step ts c1) 1 c1 l (node 14 m p (l ▸ nil) nil nil nil) (node 14 1 c1 (u .tree ▸ nil) nil nil nil) u
+            climbed ts rules e at c1 (step ts c1) 1 c1 l (node 14 m p (l ▸ nil) nil nil nil n) (node 14 1 c1 (u .tree ▸ nil) nil nil nil c1) u
             (rw s) (rw s (goers .decr)) (omega arith) (λ left. let z : 1 + left ≡ suc left = omega arith in rw (z, s)) (rw (u .same, q)) refl on (closed (step ts c1) close)
         go (suc (suc j)) q s = absurd (omega arith)
 
     prefix-part-of : (i at c room left : ℕ) (t : Tree) → i < 4 → tok ts at ≡ getD (SIncr ∷ SDecr ∷ SExcl ∷ SNeg ∷ []) i 0 → ex e Zero (step ts at) room ≡ read t c (suc left)
-        → Part ts rules e at room ≡ read (node 13 i at (t ▸ nil) nil nil nil) c left
+        → Part ts rules e at room ≡ read (node 13 i at (t ▸ nil) nil nil nil c) c left
     unfolding prefix-part match choose prefix build _>>=_
     prefix-part-of zero at c room left t i s h = rw (s, h)
     prefix-part-of (suc zero) at c room left t i s h = rw (s, h)
@@ -254,15 +254,15 @@ module _ (rules : Rules) (ts : List ℕ) (short : length ts ≤ turns) where
     prefix-part-of (suc (suc (suc zero))) at c room left t i s h = rw (s, h)
     prefix-part-of (suc (suc (suc (suc j)))) at c room left t i s h = absurd (omega arith)
 
-    prefix-inner : (m p at c : ℕ) (t : Tree) → m % 256 < 4 → Fit expressions t → deep t ≤ e → tok ts at ≡ getD (SIncr ∷ SDecr ∷ SExcl ∷ SNeg ∷ []) (m % 256) 0
-        → Stood ts (step ts at) (write t) c → tok ts c ≡ SRparen → Uptil ts inner (ex (suc e) Zero) at c (node 13 m p (t ▸ nil) nil nil nil)
+    prefix-inner : {n : ℕ} (m p at c : ℕ) (t : Tree) → m % 256 < 4 → Fit expressions t → deep t ≤ e → tok ts at ≡ getD (SIncr ∷ SDecr ∷ SExcl ∷ SNeg ∷ []) (m % 256) 0
+        → Stood ts (step ts at) (write t) c → tok ts c ≡ SRparen → Uptil ts inner (ex (suc e) Zero) at c (node 13 m p (t ▸ nil) nil nil nil n)
     unfolding seen seens dressed dresseds inner
-    prefix-inner m p at c t i o l s h close =
+    prefix-inner {n} m p at c t i o l s h close =
         let v = item Zero t (step ts at) c o l h (closed c close) in
         let small : m % 256 % 256 ≡ m % 256 = omega arith in
-        whole ts rules inner e Zero at c (node 13 m p (t ▸ nil) nil nil nil)
+        whole ts rules inner e Zero at c (node 13 m p (t ▸ nil) nil nil nil n)
         (record {
-          tree = node 13 (m % 256) at (v .tree ▸ nil) nil nil nil;
+          tree = node 13 (m % 256) at (v .tree ▸ nil) nil nil nil (v .last);
           last = v .last;
           same = rw (v .same);
           stops = v .stops;
@@ -271,17 +271,17 @@ module _ (rules : Rules) (ts : List ℕ) (short : length ts ≤ turns) where
         })
         (closed c close)
 
-    lambda-inner : (m p at c1 c : ℕ) (u t : Tree) (us : Trees) → m % 256 ≡ 0 → AllFit expressions (u ▸ us) → Fit expressions t → deeps (u ▸ us) ≤ e → deep t ≤ e
+    lambda-inner : {n : ℕ} (m p at c1 c : ℕ) (u t : Tree) (us : Trees) → m % 256 ≡ 0 → AllFit expressions (u ▸ us) → Fit expressions t → deeps (u ▸ us) ≤ e → deep t ≤ e
         → tok ts at ≡ KLambda → Stood ts (step ts at) (separated SComma (writes (u ▸ us))) c1 → tok ts c1 ≡ SImpl → Stood ts (step ts c1) (write t) c → tok ts c ≡ SRparen
-        → Uptil ts inner (ex (suc e) Zero) at c (node 15 m p (u ▸ us) (t ▸ nil) nil nil)
+        → Uptil ts inner (ex (suc e) Zero) at c (node 15 m p (u ▸ us) (t ▸ nil) nil nil n)
     unfolding prefix-part match choose lambda need _>>_ build _>>=_ next-is is seen seens dressed dresseds inner join
-    lambda-inner m p at c1 c u t us z os o ls l s h s1 g close =
+    lambda-inner {n} m p at c1 c u t us z os o ls l s h s1 g close =
         let x = list-head ts SComma u us os (step ts at) c1 h in
         let y = list-read ts rules short e at c1 SImpl u us (item Zero) os ls h s1 (closes by-arrow) refl refl (differs starter (tok ts (step ts at)) SRparen x refl) in
         let v = item Zero t (step ts c1) c o l g (closed c close) in
-        whole ts rules inner e Zero at c (node 15 m p (u ▸ us) (t ▸ nil) nil nil)
+        whole ts rules inner e Zero at c (node 15 m p (u ▸ us) (t ▸ nil) nil nil n)
         (record {
-          tree = node 15 0 at (y .trees) (v .tree ▸ nil) nil nil;
+          tree = node 15 0 at (y .trees) (v .tree ▸ nil) nil nil (v .last);
           last = v .last;
           same = rw (y .same, v .same, z);
           stops = v .stops;
@@ -299,21 +299,21 @@ module _ (rules : Rules) (ts : List ℕ) (short : length ts ≤ turns) where
         })
         (closed c close)
 
-    shell-inner : (m p at c1 c : ℕ) (t : Tree) → m % 256 < 2 → Fit expressions t → deep t ≤ e → tok ts at ≡ SDollar
+    shell-inner : {n : ℕ} (m p at c1 c : ℕ) (t : Tree) → m % 256 < 2 → Fit expressions t → deep t ≤ e → tok ts at ≡ SDollar
         → Stood ts (step ts at) (cond (eqb (m / 1 % 2) 0) [] ((SDot, 0) ∷ [])) c1 → Stood ts c1 (write t) c → tok ts c ≡ SRparen
-        → Uptil ts inner (ex (suc e) Zero) at c (node 16 m p (t ▸ nil) nil nil nil)
+        → Uptil ts inner (ex (suc e) Zero) at c (node 16 m p (t ▸ nil) nil nil nil n)
     unfolding prefix-part match choose shell command build _>>=_ next-is is seen seens dressed dresseds inner
-    shell-inner m p at c1 c t i o l s f h close = go (m % 256) refl
+    shell-inner {n} m p at c1 c t i o l s f h close = go (m % 256) refl
       where
-        go : (j : ℕ) → m % 256 ≡ j → Uptil ts inner (ex (suc e) Zero) at c (node 16 m p (t ▸ nil) nil nil nil)
+        go : (j : ℕ) → m % 256 ≡ j → Uptil ts inner (ex (suc e) Zero) at c (node 16 m p (t ▸ nil) nil nil nil n)
         go zero q =
             let v = item Zero t c1 c o l h (closed c close) in
             let z : m / 1 % 2 ≡ 0 = omega arith in
             let on : step ts at ≡ c1 = rw z at f in
             let dot : eqb (tok ts c1) SDot ≡ false = differs starter (tok ts c1) SDot (head ts t o c1 c h) refl in
-            whole ts rules inner e Zero at c (node 16 m p (t ▸ nil) nil nil nil)
+            whole ts rules inner e Zero at c (node 16 m p (t ▸ nil) nil nil nil n)
             (record {
-              tree = node 16 0 at (v .tree ▸ nil) nil nil nil;
+              tree = node 16 0 at (v .tree ▸ nil) nil nil nil (v .last);
               last = v .last;
               same = rw (v .same, q);
               stops = v .stops;
@@ -325,9 +325,9 @@ module _ (rules : Rules) (ts : List ℕ) (short : length ts ≤ turns) where
             let v = item Zero t c1 c o l h (closed c close) in
             let z : m / 1 % 2 ≡ 1 = omega arith in
             let (d1, (d2, on)) = dotted z f in
-            whole ts rules inner e Zero at c (node 16 m p (t ▸ nil) nil nil nil)
+            whole ts rules inner e Zero at c (node 16 m p (t ▸ nil) nil nil nil n)
             (record {
-              tree = node 16 1 at (v .tree ▸ nil) nil nil nil;
+              tree = node 16 1 at (v .tree ▸ nil) nil nil nil (v .last);
               last = v .last;
               same = rw (v .same, q);
               stops = v .stops;
@@ -341,36 +341,36 @@ module _ (rules : Rules) (ts : List ℕ) (short : length ts ≤ turns) where
         go (suc (suc j)) q = absurd (omega arith)
 
     -- A call, and what starts it.
-    call-inner : (p at c1 c2 : ℕ) (f : Tree) (us : Trees) → Fit expressions f → AllFit expressions us → deep f ≤ suc e → deeps us ≤ e
+    call-inner : {n : ℕ} (p at c1 c2 : ℕ) (f : Tree) (us : Trees) → Fit expressions f → AllFit expressions us → deep f ≤ suc e → deeps us ≤ e
         → Stood ts at (write f) c1 → tok ts c1 ≡ SLParen → Stood ts (step ts c1) (separated SComma (writes us)) c2 → tok ts c2 ≡ SRparen → c2 < step ts c2 → tok ts (step ts c2) ≡ SRparen
-        → Uptil ts inner (ex (suc e) Zero) at (step ts c2) (node 11 0 p (f ▸ nil) us nil nil)
+        → Uptil ts inner (ex (suc e) Zero) at (step ts c2) (node 11 0 p (f ▸ nil) us nil nil n)
     unfolding operation match choose call need _>>_ build _>>=_ next-is is seen seens dressed dresseds inner join fits writes
-    call-inner p at c1 c2 f nil o os l ls h s g s2 on close =
+    call-inner {n} p at c1 c2 f nil o os l ls h s g s2 on close =
         let u = first f at c1 o l h (rw s) in
         let x = empty-list ts SComma (step ts c1) c2 g in
-        climbed ts rules e at c1 (step ts c2) 1 c2 f (node 11 0 p (f ▸ nil) nil nil nil) (node 11 0 c1 (u .tree ▸ nil) nil nil nil) u
+        climbed ts rules e at c1 (step ts c2) 1 c2 f (node 11 0 p (f ▸ nil) nil nil nil n) (node 11 0 c1 (u .tree ▸ nil) nil nil nil c2) u
         (rw s) (rw s (goers .call)) (omega arith) (λ left. let z : 1 + left ≡ suc left = omega arith in rw (z, s, x, s2)) (rw (u .same)) refl on (closed (step ts c2) close)
-    call-inner p at c1 c2 f (t ▸ us) o os l ls h s g s2 on close =
+    call-inner {n} p at c1 c2 f (t ▸ us) o os l ls h s g s2 on close =
         let u = first f at c1 o l h (rw s) in
         let x = list-head ts SComma t us os (step ts c1) c2 g in
         let no = differs starter (tok ts (step ts c1)) SRparen x refl in
         let y = list-read ts rules short e c1 c2 SRparen t us (item Zero) os ls g s2 end refl refl no in
         let any : (c : Bool) → not c || true ≡ true = λ c. or-last (not c) in
-        climbed ts rules e at c1 (step ts c2) (sizes (t ▸ us) + 1) c2 f (node 11 0 p (f ▸ nil) (t ▸ us) nil nil) (node 11 0 c1 (u .tree ▸ nil) (y .trees) nil nil) u
+        climbed ts rules e at c1 (step ts c2) (sizes (t ▸ us) + 1) c2 f (node 11 0 p (f ▸ nil) (t ▸ us) nil nil n) (node 11 0 c1 (u .tree ▸ nil) (y .trees) nil nil c2) u
         (rw s) (rw s (goers .call)) (omega arith)
         (λ left. rw (s, no, y .reads (sizes (t ▸ us) + 1 + left) (suc left) (omega arith), y .stops, s2, any (rules .strict)))
         (rw (u .same, y .same)) refl on (closed (step ts c2) close)
 
   -- A flag on a call.
-  record Flagged (t : Tree) (g m p : ℕ) (x y : Trees) : Type 0 where
+  record Flagged (t : Tree) (g m p n : ℕ) (x y : Trees) : Type 0 where
     callable : is-call t ≡ true
-    same : seen (flagged g t) ≡ inner (node 11 m p x y nil nil)
+    same : seen (flagged g t) ≡ inner (node 11 m p x y nil nil n)
 
-  flag-call : (g m0 m1 p : ℕ) (x y : Trees) → ((m : ℕ) → m ≡ m0 % 256 → flag g m ≡ m1 % 256) → (t : Tree) → seen t ≡ inner (node 11 m0 p x y nil nil)
-      → Flagged t g m1 p x y
+  flag-call : (g m0 m1 p n : ℕ) (x y : Trees) → ((m : ℕ) → m ≡ m0 % 256 → flag g m ≡ m1 % 256) → (t : Tree) → seen t ≡ inner (node 11 m0 p x y nil nil n)
+      → Flagged t g m1 p n x y
   unfolding seen seens dressed dresseds inner is-call flagged
-  flag-call g m0 m1 p x y f (infixed m q l r) e = let z : _≡_ {A = ℕ} 0 1 = cc in absurd (omega arith)
-  flag-call g m0 m1 p x y f (node k m q x′ y′ z′ w′) e =
+  flag-call g m0 m1 p n x y f (infixed m q l r n′) e = let z : _≡_ {A = ℕ} 0 1 = cc in absurd (omega arith)
+  flag-call g m0 m1 p n x y f (node k m q x′ y′ z′ w′ n′) e =
       let k1 : k ≡ 11 = cc in
       let m2 : m ≡ m0 % 256 = cc in
       let x1 : seens x′ ≡ dresseds x = cc in
@@ -379,13 +379,13 @@ module _ (rules : Rules) (ts : List ℕ) (short : length ts ≤ turns) where
       let w1 : seens w′ ≡ nil = cc in
       record { callable = rw k1; same = rw (k1, f m m2, x1, y1, z1, w1) }
 
-  started-read : (d g at c m0 m1 p : ℕ) (x y : Trees) → ((m : ℕ) → m ≡ m0 % 256 → flag g m ≡ m1 % 256)
-      → ((room : ℕ) → Part ts rules d at room ≡ started rules ts (ex d) g at room) → Uptil ts inner (ex d Zero) (step ts at) c (node 11 m0 p x y nil nil)
-      → tok ts c ≡ SRparen → Uptil ts inner (ex (suc d) Zero) at c (node 11 m1 p x y nil nil)
+  started-read : {n : ℕ} (d g at c m0 m1 p : ℕ) (x y : Trees) → ((m : ℕ) → m ≡ m0 % 256 → flag g m ≡ m1 % 256)
+      → ((room : ℕ) → Part ts rules d at room ≡ started rules ts (ex d) g at room) → Uptil ts inner (ex d Zero) (step ts at) c (node 11 m0 p x y nil nil n)
+      → tok ts c ≡ SRparen → Uptil ts inner (ex (suc d) Zero) at c (node 11 m1 p x y nil nil n)
   unfolding started need _>>_ _>>=_
-  started-read d g at c m0 m1 p x y f s u close =
-      let v = flag-call g m0 m1 p x y f (u .tree) (u .same) in
-      whole ts rules inner d Zero at c (node 11 m1 p x y nil nil)
+  started-read {n} d g at c m0 m1 p x y f s u close =
+      let v = flag-call g m0 m1 p n x y f (u .tree) (u .same) in
+      whole ts rules inner d Zero at c (node 11 m1 p x y nil nil n)
       (record { tree = flagged g (u .tree); last = u .last; same = v .same; stops = u .stops; on = u .on; reads = λ room left q. rw (s room, u .reads room left q, v .callable) })
       (rw close (closes by-rparen))
 
@@ -411,9 +411,9 @@ module _ (rules : Rules) (ts : List ℕ) (short : length ts ≤ turns) where
   one-flag : (k w at c : ℕ) → k ≡ 1 → Stood ts at (cond (eqb k 0) [] ((w, 0) ∷ [])) c → Stood ts at ((w, 0) ∷ []) c
   one-flag k w at c e h = rw e at h
 
-  remarked : (n m p : ℕ) (f : Tree) (us : Trees) → m % 256 ≡ n % 256 → inner (node 11 n p (f ▸ nil) us nil nil) ≡ inner (node 11 m p (f ▸ nil) us nil nil)
+  remarked : (n m p z : ℕ) (f : Tree) (us : Trees) → m % 256 ≡ n % 256 → inner (node 11 n p (f ▸ nil) us nil nil z) ≡ inner (node 11 m p (f ▸ nil) us nil nil z)
   unfolding seen seens dressed dresseds inner
-  remarked n m p f us e = rw e
+  remarked n m p z f us e = rw e
 
   bit-two : (m : ℕ) → m % 256 ≡ 2 → m / 2 % 2 ≡ 1
   bit-two m h = let a : m / 2 % 128 ≡ 1 = omega arith in omega arith
@@ -437,18 +437,18 @@ module _ (rules : Rules) (ts : List ℕ) (short : length ts ≤ turns) where
   Both e = First e × Whole e
 
   module _ (e : ℕ) (below : (d : ℕ) → d ≤ e → Both d) where
-    flagged-call : (m p at c0 c1 c2 c3 : ℕ) (f : Tree) (us : Trees) → m % 256 < 4 → Fit expressions f → AllFit expressions us
+    flagged-call : {z : ℕ} (m p at c0 c1 c2 c3 : ℕ) (f : Tree) (us : Trees) → m % 256 < 4 → Fit expressions f → AllFit expressions us
         → deep f + (1 + m % 2 + m / 2 % 2) ≤ suc (suc e) → deeps us + (2 + m % 2 + m / 2 % 2) ≤ suc (suc e)
         → Stood ts at (cond (eqb (m / 1 % 2) 0) [] ((KThread, 0) ∷ [])) c0 → Stood ts c0 (cond (eqb (m / 2 % 2) 0) [] ((KAsync, 0) ∷ [])) c1
         → Stood ts c1 (write f) c2 → tok ts c2 ≡ SLParen → Stood ts (step ts c2) (separated SComma (writes us)) c3 → tok ts c3 ≡ SRparen → c3 < step ts c3 → tok ts (step ts c3) ≡ SRparen
-        → Uptil ts inner (ex (suc e) Zero) at (step ts c3) (node 11 m p (f ▸ nil) us nil nil)
-    flagged-call m p at c0 c1 c2 c3 f us i o os l ls x y h s g s2 on close = go (m % 256) refl e below l ls
+        → Uptil ts inner (ex (suc e) Zero) at (step ts c3) (node 11 m p (f ▸ nil) us nil nil z)
+    flagged-call {z} m p at c0 c1 c2 c3 f us i o os l ls x y h s g s2 on close = go (m % 256) refl e below l ls
       where
-        remark : (d n m at c : ℕ) (f : Tree) (us : Trees) → m % 256 ≡ n % 256 → Uptil ts inner (ex d Zero) at c (node 11 n p (f ▸ nil) us nil nil) → Uptil ts inner (ex d Zero) at c (node 11 m p (f ▸ nil) us nil nil)
-        remark d n m at c f us e u = record { tree = u .tree; last = u .last; same = u .same ∙ remarked n m p f us e; stops = u .stops; on = u .on; reads = u .reads }
+        remark : (d n m at c : ℕ) (f : Tree) (us : Trees) → m % 256 ≡ n % 256 → Uptil ts inner (ex d Zero) at c (node 11 n p (f ▸ nil) us nil nil z) → Uptil ts inner (ex d Zero) at c (node 11 m p (f ▸ nil) us nil nil z)
+        remark d n m at c f us e u = record { tree = u .tree; last = u .last; same = u .same ∙ remarked n m p z f us e; stops = u .stops; on = u .on; reads = u .reads }
 
         go : (j : ℕ) → m % 256 ≡ j → (e : ℕ) (below : (d : ℕ) → d ≤ e → Both d) → deep f + (1 + m % 2 + m / 2 % 2) ≤ suc (suc e) → deeps us + (2 + m % 2 + m / 2 % 2) ≤ suc (suc e)
-            → Uptil ts inner (ex (suc e) Zero) at (step ts c3) (node 11 m p (f ▸ nil) us nil nil)
+            → Uptil ts inner (ex (suc e) Zero) at (step ts c3) (node 11 m p (f ▸ nil) us nil nil z)
         go zero q e below l ls =
             let (first, item) = below e (omega arith) in
             let a = no-flag (m / 1 % 2) KThread at c0 (omega arith) x in
@@ -488,32 +488,32 @@ module _ (rules : Rules) (ts : List ℕ) (short : length ts ≤ turns) where
     -- What is written in brackets.
     bracket-part : {t : Tree} → Bracket (suc (suc e)) t → (at c : ℕ) → Stood ts at (write t) c → Upto ts (Part ts rules (suc e)) at c t
     unfolding form look forms writes wrapped
-    bracket-part (an-infix {m} {p} {l} {r} i ol or dl dr) at c h =
+    bracket-part (an-infix {m} {p} {end = n} {l} {r} i ol or dl dr) at c h =
         let (first, item) = below e (omega arith) in
         let (s0, (c1, hl, (s1, (c2, hr, (s2, end))))) = infix-formed ts m p l r at c h in
         let no : eqb (tok ts c1) SRparen ≡ false = rw (s1 .0) (operator (m % 256) i .rparen) in
-        rw end at (group ts rules (suc e) at c2 (infixed m p l r) (s0 .0) (second ts l ol (step ts at) c1 hl no)
+        rw end at (group ts rules (suc e) at c2 (infixed m p l r n) (s0 .0) (second ts l ol (step ts at) c1 hl no)
         refl (infix-inner e first item m p (step ts at) c1 c2 l r i ol or (omega arith) (omega arith) (single ts (step ts at) c1 l hl) (s1 .0) (single ts (step ts c1) c2 r hr) (s2 .0)) (s2 .0) (s2 .1))
-    bracket-part (an-index {m} {p} {l} {i = j} z ol oi dl di) at c h =
+    bracket-part (an-index {m} {p} {end = n} {l} {i = j} z ol oi dl di) at c h =
         let (first, item) = below e (omega arith) in
         let (s0, (c1, hl, (s1, (c2, hi, (s2, (s3, end)))))) = formed ts 10 m p (l ▸ nil) (j ▸ nil) nil nil at c h in
-        rw end at (group ts rules (suc e) at (step ts c2) (node 10 m p (l ▸ nil) (j ▸ nil) nil nil) (s0 .0) (second ts l ol (step ts at) c1 hl (rw (s1 .0)))
+        rw end at (group ts rules (suc e) at (step ts c2) (node 10 m p (l ▸ nil) (j ▸ nil) nil nil n) (s0 .0) (second ts l ol (step ts at) c1 hl (rw (s1 .0)))
         refl (index-inner e first item m p (step ts at) c1 c2 l j z ol oi (omega arith) (omega arith) (single ts (step ts at) c1 l hl) (s1 .0) (single ts (step ts c1) c2 j hi) (s2 .0) (s2 .1) (s3 .0)) (s3 .0) (s3 .1))
-    bracket-part (a-call {m} {p} {f} {us} i of os df ds) at c h =
+    bracket-part (a-call {m} {p} {end = n} {f} {us} i of os df ds) at c h =
         let (s0, (c0, hx, (c1, hy, (c2, hf, (s1, (c3, hs, (s2, (s3, end)))))))) = formed ts 11 m p (f ▸ nil) us nil nil at c h in
-        rw end at (group ts rules (suc e) at (step ts c3) (node 11 m p (f ▸ nil) us nil nil) (s0 .0)
+        rw end at (group ts rules (suc e) at (step ts c3) (node 11 m p (f ▸ nil) us nil nil n) (s0 .0)
         (call-second (eqb (m / 1 % 2) 0) (eqb (m / 2 % 2) 0) (step ts at) c0 c1 hx hy (differs starter (tok ts c1) SRparen (one-head ts f of c1 c2 hf) refl) (second ts f of c1 c2 hf (rw (s1 .0))))
         refl (flagged-call m p (step ts at) c0 c1 c2 c3 f us i of os df ds hx hy (single ts c1 c2 f hf) (s1 .0) hs (s2 .0) (s2 .1) (s3 .0)) (s3 .0) (s3 .1))
-    bracket-part (a-prefix {m} {p} {t} i o l) at c h =
+    bracket-part (a-prefix {m} {p} {end = n} {t} i o l) at c h =
         let (first, item) = below e (omega arith) in
         let (s0, (s1, (c1, ht, (s2, end)))) = formed ts 13 m p (t ▸ nil) nil nil nil at c h in
-        rw end at (group ts rules (suc e) at c1 (node 13 m p (t ▸ nil) nil nil nil) (s0 .0)
+        rw end at (group ts rules (suc e) at c1 (node 13 m p (t ▸ nil) nil nil nil n) (s0 .0)
         (differs starter (tok ts (step ts (step ts at))) SRparen (one-head ts t o (step ts (step ts at)) c1 ht) refl)
         refl (prefix-inner e first item m p (step ts at) c1 t i o (omega arith) (s1 .0) (single ts (step ts (step ts at)) c1 t ht) (s2 .0)) (s2 .0) (s2 .1))
-    bracket-part (a-suffix {m} {p} {t} i o l) at c h =
+    bracket-part (a-suffix {m} {p} {end = n} {t} i o l) at c h =
         let (first, item) = below e (omega arith) in
         let (s0, (c1, ht, (s1, (s2, end)))) = formed ts 14 m p (t ▸ nil) nil nil nil at c h in
-        rw end at (group ts rules (suc e) at (step ts c1) (node 14 m p (t ▸ nil) nil nil nil) (s0 .0)
+        rw end at (group ts rules (suc e) at (step ts c1) (node 14 m p (t ▸ nil) nil nil nil n) (s0 .0)
         (second ts t o (step ts at) c1 ht (suffix-sign (m % 256) i (s1 .0)))
         refl (suffix-inner e first item m p (step ts at) c1 t i o (omega arith) (single ts (step ts at) c1 t ht) (s1 .0) (s1 .1) (s2 .0)) (s2 .0) (s2 .1))
       where
@@ -521,16 +521,16 @@ module _ (rules : Rules) (ts : List ℕ) (short : length ts ≤ turns) where
         suffix-sign zero i e = rw e
         suffix-sign (suc zero) i e = rw e
         suffix-sign (suc (suc j)) i e = absurd (omega arith)
-    bracket-part (a-lambda {m} {p} {u} {t} {us} z os o ls l) at c h =
+    bracket-part (a-lambda {m} {p} {end = n} {u} {t} {us} z os o ls l) at c h =
         let (first, item) = below e (omega arith) in
         let (s0, (s1, (c1, hs, (s2, (c2, ht, (s3, end)))))) = formed ts 15 m p (u ▸ us) (t ▸ nil) nil nil at c h in
-        rw end at (group ts rules (suc e) at c2 (node 15 m p (u ▸ us) (t ▸ nil) nil nil) (s0 .0)
+        rw end at (group ts rules (suc e) at c2 (node 15 m p (u ▸ us) (t ▸ nil) nil nil n) (s0 .0)
         (differs starter (tok ts (step ts (step ts at))) SRparen (list-head ts SComma u us os (step ts (step ts at)) c1 hs) refl)
         refl (lambda-inner e first item m p (step ts at) c1 c2 u t us z os o (omega arith) (omega arith) (s1 .0) hs (s2 .0) (single ts (step ts c1) c2 t ht) (s3 .0)) (s3 .0) (s3 .1))
-    bracket-part (a-shell {m} {p} {t} i o l) at c h =
+    bracket-part (a-shell {m} {p} {end = n} {t} i o l) at c h =
         let (first, item) = below e (omega arith) in
         let (s0, (s1, (c0, hf, (c1, ht, (s2, end))))) = formed ts 16 m p (t ▸ nil) nil nil nil at c h in
-        rw end at (group ts rules (suc e) at c1 (node 16 m p (t ▸ nil) nil nil nil) (s0 .0)
+        rw end at (group ts rules (suc e) at c1 (node 16 m p (t ▸ nil) nil nil nil n) (s0 .0)
         (flag-second ts (eqb (m / 1 % 2) 0) SDot (step ts (step ts at)) c0 hf refl (differs starter (tok ts c0) SRparen (one-head ts t o c0 c1 ht) refl))
         refl (shell-inner e first item m p (step ts at) c0 c1 t i o (omega arith) (s1 .0) hf (single ts c0 c1 t ht) (s2 .0)) (s2 .0) (s2 .1))
 
@@ -542,11 +542,11 @@ module _ (rules : Rules) (ts : List ℕ) (short : length ts ≤ turns) where
   first-of d item brackets t at c o l h dot = go (shape (suc d) t o l) h
     where
       go : {t : Tree} → Shape (suc d) t → Stood ts at (write t) c → Upto ts (Part ts rules d) at c t
-      go (a-value {k} {m} {p} {w} {q} {made} v e f j) h =
-          let (i, g, s) = valued ts at c k m p w q e h in
+      go (a-value {w} {q} {made} v e f j) h =
+          let (i, g, s) = valued ts at c w q e h in
           let dot′ : eqb (tok ts (step ts at)) SDot ≡ false = rw s dot in
           record {
-            tree = made at;
+            tree = ended at (made at);
             last = at;
             same = f at;
             stops = s;

@@ -9,7 +9,7 @@ use lib.Dec.{eqb, ltb, leb}
 use lib.ListN.{getD}
 use borrow.Author.Tests.{ltb-true, leb-true, eqb-true, lt-ltb, le-leb}
 use Rattle.grammar.specs.Words.{EOF, SImpl, SDot, Zero, tok, step, next-is, infix-of}
-use Rattle.grammar.specs.Tree.{Tree, infixed, node, Trees, nil, _▸_, join, leaf, flag, flagged, Thread, Async, Grouped, is-call}
+use Rattle.grammar.specs.Tree.{Tree, infixed, node, Trees, nil, _▸_, join, leaf, ended, flag, flagged, Thread, Async, Grouped, is-call}
 use Rattle.grammar.specs.Tree as tree
 use Rattle.grammar.specs.Parsed.{Parsed, Reader, _>>=_, build, Arm, match, turns}
 use Rattle.grammar.specs.Parsed.{BreakWithoutSemicolon, ContinueWithoutSemicolon}
@@ -121,18 +121,18 @@ started-mark f m s h = go (marks 11 m h)
         in-brackets 11 (flag f m) refl (rw e at (q .2)) (rw e at (q .1))
 
 -- A row of which all is known fits.
-node-fits : (s : Takes) (k m p : ℕ) (x y z w : Trees) → takes s k m ≡ true → not (eqb k 12) ≡ true → marked k m ≡ true
+node-fits : (s : Takes) (k m p : ℕ) (x y z w : Trees) (n : ℕ) → takes s k m ≡ true → not (eqb k 12) ≡ true → marked k m ≡ true
     → counts (slot k 0 .many) (how-many x) ≡ true → all-fit (slot k 0 .kinds) x ≡ true → counts (slot k 1 .many) (how-many y) ≡ true → all-fit (slot k 1 .kinds) y ≡ true
     → counts (slot k 2 .many) (how-many z) ≡ true → all-fit (slot k 2 .kinds) z ≡ true → counts (slot k 3 .many) (how-many w) ≡ true → all-fit (slot k 3 .kinds) w ≡ true
-    → fits s (node k m p x y z w) ≡ true
+    → fits s (node k m p x y z w n) ≡ true
 unfolding fits
-node-fits s k m p x y z w a b c d e f g h i j l = rw (a, b, c, d, e, f, g, h, i, j, l)
+node-fits s k m p x y z w n a b c d e f g h i j l = rw (a, b, c, d, e, f, g, h, i, j, l)
 
 -- A row with another mark, in a slot that takes it.
-refit : (s s′ : Takes) (k m m′ p : ℕ) (x y z w : Trees) → fits s (node k m p x y z w) ≡ true → (takes s k m ≡ true → takes s′ k m′ ≡ true)
-    → (takes s k m ≡ true → marked k m ≡ true → marked k m′ ≡ true) → fits s′ (node k m′ p x y z w) ≡ true
+refit : (s s′ : Takes) (k m m′ p : ℕ) (x y z w : Trees) (n : ℕ) → fits s (node k m p x y z w n) ≡ true → (takes s k m ≡ true → takes s′ k m′ ≡ true)
+    → (takes s k m ≡ true → marked k m ≡ true → marked k m′ ≡ true) → fits s′ (node k m′ p x y z w n) ≡ true
 unfolding fits
-refit s s′ k m m′ p x y z w h tk mk =
+refit s s′ k m m′ p x y z w n h tk mk =
     let (e, f3) = and-eq-true-iff _ (all-fit (slot k 3 .kinds) w) .0 h in
     let (e, c3) = and-eq-true-iff _ (counts (slot k 3 .many) (how-many w)) .0 e in
     let (e, f2) = and-eq-true-iff _ (all-fit (slot k 2 .kinds) z) .0 e in
@@ -143,25 +143,26 @@ refit s s′ k m m′ p x y z w h tk mk =
     let (e, c0) = and-eq-true-iff _ (counts (slot k 0 .many) (how-many x)) .0 e in
     let (e, mark) = and-eq-true-iff _ (marked k m) .0 e in
     let (taken, other) = and-eq-true-iff (takes s k m) (not (eqb k 12)) .0 e in
-    node-fits s′ k m′ p x y z w (tk taken) other (mk taken mark) c0 f0 c1 f1 c2 f2 c3 f3
+    node-fits s′ k m′ p x y z w n (tk taken) other (mk taken mark) c0 f0 c1 f1 c2 f2 c3 f3
 
-infix-fits : (s : Takes) (m p : ℕ) (l r : Tree) → takes s 12 m ≡ true → marked 12 m ≡ true → fits expressions l ≡ true → fits expressions r ≡ true → fits s (infixed m p l r) ≡ true
+infix-fits : (s : Takes) (m p : ℕ) (l r : Tree) (n : ℕ) → takes s 12 m ≡ true → marked 12 m ≡ true → fits expressions l ≡ true → fits expressions r ≡ true
+    → fits s (infixed m p l r n) ≡ true
 unfolding fits
-infix-fits s m p l r a b c d = rw (a, b, c, d)
+infix-fits s m p l r n a b c d = rw (a, b, c, d)
 
-refit-infix : (s s′ : Takes) (m m′ p : ℕ) (l r : Tree) → fits s (infixed m p l r) ≡ true → (takes s 12 m ≡ true → takes s′ 12 m′ ≡ true)
-    → (marked 12 m ≡ true → marked 12 m′ ≡ true) → fits s′ (infixed m′ p l r) ≡ true
+refit-infix : (s s′ : Takes) (m m′ p : ℕ) (l r : Tree) (n : ℕ) → fits s (infixed m p l r n) ≡ true → (takes s 12 m ≡ true → takes s′ 12 m′ ≡ true)
+    → (marked 12 m ≡ true → marked 12 m′ ≡ true) → fits s′ (infixed m′ p l r n) ≡ true
 unfolding fits
-refit-infix s s′ m m′ p l r h tk mk =
+refit-infix s s′ m m′ p l r n h tk mk =
     let (e, d) = and-eq-true-iff (takes s 12 m && marked 12 m && fits expressions l) (fits expressions r) .0 h in
     let (e, c) = and-eq-true-iff (takes s 12 m && marked 12 m) (fits expressions l) .0 e in
     let (a, b) = and-eq-true-iff (takes s 12 m) (marked 12 m) .0 e in
-    infix-fits s′ m′ p l r (tk a) (mk b) c d
+    infix-fits s′ m′ p l r n (tk a) (mk b) c d
 
 -- What fits in a slot of one kind fits as a root.
 root : (s : Takes) → ((k m : ℕ) → takes s k m ≡ true → takes any-root k m ≡ true) → (t : Tree) → fits s t ≡ true → fits any-root t ≡ true
-root s h (infixed m p l r) f = refit-infix s any-root m m p l r f (h 12 m) (λ q. q)
-root s h (node k m p x y z w) f = refit s any-root k m m p x y z w f (h k m) (λ u q. q)
+root s h (infixed m p l r n) f = refit-infix s any-root m m p l r n f (h 12 m) (λ q. q)
+root s h (node k m p x y z w n) f = refit s any-root k m m p x y z w n f (h k m) (λ u q. q)
 
 roots : (s : Takes) → ((k m : ℕ) → takes s k m ≡ true → takes any-root k m ≡ true) → (us : Trees) → all-fit s us ≡ true → all-fit any-root us ≡ true
 unfolding all-fit
@@ -184,20 +185,20 @@ block-root : (k m : ℕ) → takes blocks k m ≡ true → takes any-root k m �
 unfolding takes
 block-root k m h = or-right (is-expression k || is-statement k) (eqb k 46) h
 
-group-infix : (m p : ℕ) (l r : Tree) → fits expressions (infixed m p l r) ≡ true → fits expressions (flagged Grouped (infixed m p l r)) ≡ true
+group-infix : (m p : ℕ) (l r : Tree) (n : ℕ) → fits expressions (infixed m p l r n) ≡ true → fits expressions (flagged Grouped (infixed m p l r n)) ≡ true
 unfolding flagged takes is-expression
-group-infix m p l r f = refit-infix expressions expressions m (flag Grouped m) p l r f (λ q. refl) (grouped-mark 12 m refl)
+group-infix m p l r n f = refit-infix expressions expressions m (flag Grouped m) p l r n f (λ q. refl) (grouped-mark 12 m refl)
 
-group-node : (k m p : ℕ) (x y z w : Trees) → fits expressions (node k m p x y z w) ≡ true → fits expressions (flagged Grouped (node k m p x y z w)) ≡ true
+group-node : (k m p : ℕ) (x y z w : Trees) (n : ℕ) → fits expressions (node k m p x y z w n) ≡ true → fits expressions (flagged Grouped (node k m p x y z w n)) ≡ true
 unfolding flagged takes
-group-node k m p x y z w f = refit expressions expressions k m (flag Grouped m) p x y z w f (λ q. q) (λ q. grouped-mark k m q)
+group-node k m p x y z w n f = refit expressions expressions k m (flag Grouped m) p x y z w n f (λ q. q) (λ q. grouped-mark k m q)
 
 start-fits : (f : ℕ) (t : Tree) → Start f → is-call t ≡ true → fits expressions t ≡ true → fits expressions (flagged f t) ≡ true
 unfolding flagged takes is-call
-start-fits f (infixed m p l r) s c h = never c
-start-fits f (node k m p x y z w) s c h =
+start-fits f (infixed m p l r n) s c h = never c
+start-fits f (node k m p x y z w n) s c h =
     let e : k ≡ 11 = eqb-true k 11 c in
-    refit expressions expressions k m (flag f m) p x y z w h (λ q. q) (λ q u. go k e u)
+    refit expressions expressions k m (flag f m) p x y z w n h (λ q. q) (λ q u. go k e u)
   where
     go : (k : ℕ) → k ≡ 11 → marked k m ≡ true → marked k (flag f m) ≡ true
     go k e u = let v : marked 11 m ≡ true = rw e at u in rw e (started-mark f m s v)
@@ -255,24 +256,24 @@ unfolding join
 some-joined nil t = omega arith
 some-joined (u ▸ us) t = omega arith
 
-made : (s : Takes) (k m p : ℕ) (x y z w : Trees) → takes s k m ≡ true → not (eqb k 12) ≡ true → marked k m ≡ true
-    → In (slot k 0) x → In (slot k 1) y → In (slot k 2) z → In (slot k 3) w → Fit s (node k m p x y z w)
-made s k m p x y z w tk ot mk i0 i1 i2 i3 =
-    record { fit = node-fits s k m p x y z w tk ot mk (i0 .count) (i0 .every .fit) (i1 .count) (i1 .every .fit) (i2 .count) (i2 .every .fit) (i3 .count) (i3 .every .fit) }
+made : (s : Takes) (k m p : ℕ) (x y z w : Trees) (n : ℕ) → takes s k m ≡ true → not (eqb k 12) ≡ true → marked k m ≡ true
+    → In (slot k 0) x → In (slot k 1) y → In (slot k 2) z → In (slot k 3) w → Fit s (node k m p x y z w n)
+made s k m p x y z w n tk ot mk i0 i1 i2 i3 =
+    record { fit = node-fits s k m p x y z w n tk ot mk (i0 .count) (i0 .every .fit) (i1 .count) (i1 .every .fit) (i2 .count) (i2 .every .fit) (i3 .count) (i3 .every .fit) }
 
 -- The rule for a reader that ends in a row.
 row-of : (s : Takes) (k m p at room : ℕ) (x y z w : Trees) → takes s k m ≡ true → not (eqb k 12) ≡ true → marked k m ≡ true
-    → In (slot k 0) x → In (slot k 1) y → In (slot k 2) z → In (slot k 3) w → Gives (Tree-ok s) (build (node k m p x y z w) at room)
-row-of s k m p at room x y z w tk ot mk i0 i1 i2 i3 = gives-build (Tree-ok s) (node k m p x y z w) at room (made s k m p x y z w tk ot mk i0 i1 i2 i3)
+    → In (slot k 0) x → In (slot k 1) y → In (slot k 2) z → In (slot k 3) w → Gives (Tree-ok s) (build (node k m p x y z w 0) at room)
+row-of s k m p at room x y z w tk ot mk i0 i1 i2 i3 = gives-build (Tree-ok s) (node k m p x y z w 0) at room (made s k m p x y z w at tk ot mk i0 i1 i2 i3)
 
 -- A tree in brackets, and a call that is started.
 group-ok : (t : Tree) → Fit expressions t → Fit expressions (flagged Grouped t)
-group-ok (infixed m p l r) h = record { fit = group-infix m p l r (h .fit) }
-group-ok (node k m p x y z w) h = record { fit = group-node k m p x y z w (h .fit) }
+group-ok (infixed m p l r n) h = record { fit = group-infix m p l r n (h .fit) }
+group-ok (node k m p x y z w n) h = record { fit = group-node k m p x y z w n (h .fit) }
 
-infix-ok : (m p : ℕ) (l r : Tree) → m < 23 → Fit expressions l → Fit expressions r → Fit expressions (infixed m p l r)
+infix-ok : (m p : ℕ) (l r : Tree) (n : ℕ) → m < 23 → Fit expressions l → Fit expressions r → Fit expressions (infixed m p l r n)
 unfolding takes is-expression kind-of of-expressions
-infix-ok m p l r h x y = record { fit = infix-fits expressions m p l r refl (bare 12 m h) (x .fit) (y .fit) }
+infix-ok m p l r n h x y = record { fit = infix-fits expressions m p l r n refl (bare 12 m h) (x .fit) (y .fit) }
 
 -- A reader of one tree.
 abbrev Reads : Takes → Reader Tree → Type 0
@@ -284,22 +285,23 @@ match-reads s w other end h at room = h at room
 match-reads s w other (r ▹ rs) h at room = gives-choose _ _ _ _ (λ q. r at room) (λ q. match-reads s w other rs h at room)
 
 leaf-reads : (s : Takes) (k m : ℕ) → ((p : ℕ) → fits s (leaf k m p) ≡ true) → Reads s (λ at. build (leaf k m at) at)
+unfolding fits
 leaf-reads s k m h at room = gives-build (Tree-ok s) (leaf k m at) at room (record { fit = h at })
 
 module _ (rules : Rules) (ts : List ℕ) where
-  identified : (made : ℕ → Tree) (at room : ℕ) → Gives (λ t c. t ≡ made at) (e.get-identifier ts made at room)
+  identified : (made : ℕ → Tree) (at room : ℕ) → Gives (λ t c. t ≡ ended at (made at)) (e.get-identifier ts made at room)
   unfolding e.get-identifier
   identified made at room = gives-need _ _ _ _ _ (λ q. gives-build _ (made at) at room refl)
 
-  a-name : (p : ℕ) → Fit names (tree.name p)
+  a-name : (p : ℕ) → Fit names (ended p (tree.name p))
   unfolding fits all-fit takes counts marked kind-of of-expressions slot
   a-name p = record { fit = refl }
 
-  an-identifier : (p : ℕ) → Fit expressions (tree.identifier p)
+  an-identifier : (p : ℕ) → Fit expressions (ended p (tree.identifier p))
   unfolding fits all-fit takes counts marked kind-of of-expressions slot is-expression
   an-identifier p = record { fit = refl }
 
-  plain-identified : (p : ℕ) → Fit plain-identifier (tree.identifier p)
+  plain-identified : (p : ℕ) → Fit plain-identifier (ended p (tree.identifier p))
   unfolding fits all-fit takes counts marked kind-of of-expressions slot
   plain-identified p = record { fit = refl }
 
@@ -382,7 +384,8 @@ module _ (rules : Rules) (ts : List ℕ) where
 
     infix-reads : (left : Tree) → Fit expressions left → Reads expressions (e.infix-expression rules ts rec left)
     unfolding e.infix-expression
-    infix-reads left h at room = rec-then _ _ _ _ _ (λ t c m z. gives-build (Tree-ok expressions) _ c m (infix-ok (infix-of (tok ts at) - 1) at left t (infix-low (tok ts at)) h z))
+    infix-reads left h at room = rec-then _ _ _ _ _ (λ t c m z.
+        gives-build (Tree-ok expressions) _ c m (infix-ok (infix-of (tok ts at) - 1) at left t c (infix-low (tok ts at)) h z))
 
     lambda-reads : Reads expressions (e.lambda rules ts rec)
     unfolding e.lambda takes marked kind-of of-expressions slot is-expression
@@ -508,7 +511,7 @@ module _ (rules : Rules) (ts : List ℕ) (expr : e.Rec) (ih : (pre : ℕ) → Re
     expression-statement-reads at room = search bodies depth 15
 
     alone-reads : (k number : ℕ) → ((p : ℕ) → fits statements (leaf k 0 p) ≡ true) → Reads statements (s.alone rules ts expr stmt (leaf k 0) number)
-    unfolding s.alone
+    unfolding s.alone fits
     alone-reads k number h at room = gives-need _ _ _ _ _ (λ q. gives-build (Tree-ok statements) (leaf k 0 at) _ room (record { fit = h at }))
 
     function-reads : Reads statements (s.function rules ts expr stmt)

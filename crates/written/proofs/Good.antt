@@ -124,8 +124,8 @@ mutual
   unfolding write
 
   pub fine-write : (t : Tree) → Fine (write t)
-  fine-write (infixed m p l r) = fine-pieces (form 12) m p ((write l ∷ []) ∷ (write r ∷ []) ∷ []) (form-good 12) ((fine-write l, tt), ((fine-write r, tt), tt))
-  fine-write (node k m p a b c d) =
+  fine-write (infixed m p l r z) = fine-pieces (form 12) m p ((write l ∷ []) ∷ (write r ∷ []) ∷ []) (form-good 12) ((fine-write l, tt), ((fine-write r, tt), tt))
+  fine-write (node k m p a b c d z) =
       fine-pieces (form k) m p (writes a ∷ writes b ∷ writes c ∷ writes d ∷ []) (form-good k) (fine-writes a, (fine-writes b, (fine-writes c, (fine-writes d, tt))))
 
   pub fine-writes : (us : Trees) → FineAll (writes us)
@@ -208,12 +208,12 @@ pub record Ended (t : Tree) : Type 0 where
 
 pub ended-of : (t : Tree) → Ended t
 unfolding written
-ended-of (infixed m p l r) = record { before = write (infixed m p l r); fine = fine-write (infixed m p l r); same = refl }
-ended-of (node k m p x y z w) = record { before = cond (eqb k 46) (joined (writes x)) (write (node k m p x y z w)); fine = go (eqb k 46); same = refl }
+ended-of (infixed m p l r z) = record { before = write (infixed m p l r z); fine = fine-write (infixed m p l r z); same = refl }
+ended-of (node k m p x y z w n) = record { before = cond (eqb k 46) (joined (writes x)) (write (node k m p x y z w n)); fine = go (eqb k 46); same = refl }
   where
-    go : (c : Bool) → Fine (cond c (joined (writes x)) (write (node k m p x y z w)))
+    go : (c : Bool) → Fine (cond c (joined (writes x)) (write (node k m p x y z w n)))
     go true = fine-statements x
-    go false = fine-write (node k m p x y z w)
+    go false = fine-write (node k m p x y z w n)
 
 last-of : (xs : List Token) → getD (words (ended xs)) (length xs) 0 ≡ EOF
 last-of [] = refl

@@ -9,24 +9,23 @@ use lib.ListN.{getD}
 use Rattle.grammar.specs.Words.{Identifier, SLParen, SRparen, SComma, SIncr, SDecr, SExcl, SNeg, tok, step}
 use Rattle.grammar.specs.Tree.{Tree, node, Trees, nil, _▸_}
 use Rattle.slots.specs.Slots.{expressions, pairs}
-use Rattle.written.specs.Written.{forms, look, form, joined, separated, piece, pieces, write, writes}
+use Rattle.written.specs.Written.{Token, forms, look, form, joined, separated, piece, pieces, write, writes}
 use Rattle.written.specs.Claims.{deep}
 use Rattle.written.proofs.Stood.{Stood, Sign, formed, infix-formed, single, behind, empty-list}
 use Rattle.written.proofs.Shapes.{Fit, AllFit, fit-head, Bracket, an-infix, an-index, a-call, a-prefix, a-suffix, a-lambda, a-shell, Shape, a-value, an-array, a-hash, an-attribute, bracketed, shape, Paired, a-pair, paired}
 use Rattle.written.proofs.Signs.{starter, value-starts, differs}
 
 module _ (ts : List ℕ) where
-  pub valued : (at c k m p w q : ℕ) → write (node k m p nil nil nil nil) ≡ (w, q) ∷ [] → Stood ts at (write (node k m p nil nil nil nil)) c
-      → (tok ts at ≡ w) × (at < step ts at) × (step ts at ≡ c)
-  valued at c k m p w q e h = rw e at h
+  pub valued : {xs : List Token} (at c w q : ℕ) → xs ≡ (w, q) ∷ [] → Stood ts at xs c → (tok ts at ≡ w) × (at < step ts at) × (step ts at ≡ c)
+  valued at c w q e h = rw e at h
 
-  pub identified-at : (q at c : ℕ) → Stood ts at (joined (writes (node 2 0 q nil nil nil nil ▸ nil))) c → Sign ts Identifier at × (step ts at ≡ c)
+  pub identified-at : (q at c : ℕ) → Stood ts at (joined (writes (node 2 0 q nil nil nil nil 0 ▸ nil))) c → Sign ts Identifier at × (step ts at ≡ c)
   unfolding joined writes write form look forms pieces piece
   identified-at q at c (e, f, h) = ((e, f), h)
 
   module _ (n : ℕ) where
     paren-of : {t : Tree} → Bracket n t → (at c : ℕ) → Stood ts at (write t) c → tok ts at ≡ SLParen
-    unfolding form look forms
+    unfolding form look forms writes
     paren-of (an-infix {m} {p} {l} {r} i f g j k) at c h = infix-formed ts m p l r at c h .0 .0
     paren-of (an-index {m} {p} {l} {i = i′} i f g j k) at c h = formed ts 10 m p (l ▸ nil) (i′ ▸ nil) nil nil at c h .0 .0
     paren-of (a-call {m} {p} {f = f′} {us} i f g j k) at c h = formed ts 11 m p (f′ ▸ nil) us nil nil at c h .0 .0
@@ -36,12 +35,12 @@ module _ (ts : List ℕ) where
     paren-of (a-shell {m} {p} {t} i f j) at c h = formed ts 16 m p (t ▸ nil) nil nil nil at c h .0 .0
 
     shape-head : {t : Tree} → Shape n t → (at c : ℕ) → Stood ts at (write t) c → starter (tok ts at) ≡ true
-    unfolding form look forms
-    shape-head (a-value {k} {m} {p} {w} {q} v e f l) at c h = let (i, j, g) = valued at c k m p w q e h in rw i (value-starts v)
+    unfolding form look forms writes
+    shape-head (a-value {w} {q} v e f l) at c h = let (i, j, g) = valued at c w q e h in rw i (value-starts v)
     shape-head (an-array {m} {p} {us} e f l) at c h = rw (formed ts 8 m p us nil nil nil at c h .0 .0)
     shape-head (a-hash {m} {p} {us} e f l) at c h = rw (formed ts 9 m p us nil nil nil at c h .0 .0)
     shape-head (an-attribute {m} {p} {q} {u} {us} e f l) at c h =
-        let (b′, k, r) = formed ts 17 m p (node 2 0 q nil nil nil nil ▸ nil) (u ▸ us) nil nil at c h in
+        let (b′, k, r) = formed ts 17 m p (node 2 0 q nil nil nil nil 0 ▸ nil) (u ▸ us) nil nil at c h in
         let ((i, j), g) = identified-at q at b′ k in rw i
     shape-head (bracketed x) at c h = rw (paren-of x at c h)
 
@@ -57,7 +56,7 @@ module _ (ts : List ℕ) where
   list-head w t us o at c h = let (b′, k, r) = behind ts w at c t us h in head t (fit-head o) at b′ k
 
   pub pair-head : (t : Tree) → Fit pairs t → (at c : ℕ) → Stood ts at (write t) c → starter (tok ts at) ≡ true
-  unfolding form look forms
+  unfolding form look forms writes
   pair-head t o at c h = go (paired (deep t) t o (omega arith)) h
     where
       go : {t : Tree} {n : ℕ} → Paired n t → Stood ts at (write t) c → starter (tok ts at) ≡ true
@@ -109,8 +108,8 @@ module _ (ts : List ℕ) where
   bracket-second (a-shell {m} {p} {t} i f j) at c h = let (x, (y, z)) = formed ts 16 m p (t ▸ nil) nil nil nil at c h in rw (y .0)
 
   shape-second : {n : ℕ} {t : Tree} → Shape n t → (at c : ℕ) → Stood ts at (write t) c → eqb (tok ts c) SRparen ≡ false → eqb (tok ts (step ts at)) SRparen ≡ false
-  unfolding form look forms
-  shape-second (a-value {k} {m} {p} {w} {q} v e f l) at c h x = let (i, j, g) = valued at c k m p w q e h in rw (g, x)
+  unfolding form look forms writes
+  shape-second (a-value {w} {q} v e f l) at c h x = let (i, j, g) = valued at c w q e h in rw (g, x)
   shape-second (an-array {m} {p} {us} e f l) at c h x =
       let (i, (b′, y, ((z, z′), q))) = formed ts 8 m p us nil nil nil at c h in
       list-second SComma _ us f refl (step ts at) b′ y z
@@ -118,7 +117,7 @@ module _ (ts : List ℕ) where
       let (i, (b′, y, ((z, z′), q))) = formed ts 9 m p us nil nil nil at c h in
       pairs-second us f (step ts at) b′ y (rw z)
   shape-second (an-attribute {m} {p} {q} {u} {us} e f l) at c h x =
-      let (b′, k, ((z, z′), r)) = formed ts 17 m p (node 2 0 q nil nil nil nil ▸ nil) (u ▸ us) nil nil at c h in
+      let (b′, k, ((z, z′), r)) = formed ts 17 m p (node 2 0 q nil nil nil nil 0 ▸ nil) (u ▸ us) nil nil at c h in
       let ((i, j), g) = identified-at q at b′ k in rw (g, z)
   shape-second (bracketed y) at c h x = bracket-second y at c h
 

@@ -25,20 +25,20 @@ Lows-at n us at = Lows n us
 
 -- A row one above its slots, and one on their level.
 row-up : {d : ℕ} (k m p at room : ℕ) (x y z w : Trees) → base k m + grouped m ≡ 1 → beside k ≡ 0 → Lows d x → Lows d y → Lows d z → Lows d w
-    → Gives (Low-at (suc d)) (build (node k m p x y z w) at room)
-row-up {d} k m p at room x y z w e f a b c g = gives-build (Low-at (suc d)) (node k m p x y z w) at room
+    → Gives (Low-at (suc d)) (build (node k m p x y z w 0) at room)
+row-up {d} k m p at room x y z w e f a b c g = gives-build (Low-at (suc d)) (node k m p x y z w 0) at room
     (made-low k m p 1 0 (suc d) x y z w e f (omega (arith, a .low)) (omega (arith, b .low)) (omega (arith, c .low)) (omega (arith, g .low)))
 
 row-flat : {d : ℕ} (k m p at room : ℕ) (x y z w : Trees) → base k m + grouped m ≡ 0 → beside k ≡ 0 → Lows d x → Lows d y → Lows d z → Lows d w
-    → Gives (Low-at d) (build (node k m p x y z w) at room)
-row-flat {d} k m p at room x y z w e f a b c g = gives-build (Low-at d) (node k m p x y z w) at room
+    → Gives (Low-at d) (build (node k m p x y z w 0) at room)
+row-flat {d} k m p at room x y z w e f a b c g = gives-build (Low-at d) (node k m p x y z w 0) at room
     (made-low k m p 0 0 d x y z w e f (omega (arith, a .low)) (omega (arith, b .low)) (omega (arith, c .low)) (omega (arith, g .low)))
 
 -- An index or a call: behind its first slot.
 row-behind : {d : ℕ} (k m p at room : ℕ) (t : Tree) (y : Trees) → base k m + grouped m ≡ 0 → beside k ≡ 1 → Low (suc d) t → Lows d y
-    → Gives (Low-at (suc d)) (build (node k m p (t ▸ nil) y nil nil) at room)
+    → Gives (Low-at (suc d)) (build (node k m p (t ▸ nil) y nil nil 0) at room)
 unfolding opens-of
-row-behind {d} k m p at room t y e f a b = gives-build (Low-at (suc d)) (node k m p (t ▸ nil) y nil nil) at room
+row-behind {d} k m p at room t y e f a b = gives-build (Low-at (suc d)) (node k m p (t ▸ nil) y nil nil 0) at room
     (made-low k m p 0 1 (suc d) (t ▸ nil) y nil nil e f (omega (arith, a .low)) (omega (arith, b .low)) (omega arith) (omega arith))
 
 abbrev Reads : ℕ → Reader Tree → Type 0
@@ -130,7 +130,7 @@ module _ (rules : Rules) (ts : List ℕ) (d : ℕ) where
     unfolding e.infix-expression
     infix-reads left h at room = rec-then _ _ _ _ _ (λ t c m z. gives-build (Low-at (suc d)) _ c m (infix-low-at _ at left t (infix-low (tok ts at)) h z))
       where
-        infix-low-at : (m p : ℕ) (l r : Tree) → m < 23 → Low (suc d) l → Low d r → Low (suc d) (infixed m p l r)
+        infix-low-at : {z : ℕ} (m p : ℕ) (l r : Tree) → m < 23 → Low (suc d) l → Low d r → Low (suc d) (infixed m p l r z)
         infix-low-at m p l r i x y = joined-low m p l r (omega arith) (x .low) (y .low)
 
     lambda-reads : Reads (suc d) (e.lambda rules ts rec)

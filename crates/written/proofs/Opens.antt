@@ -20,20 +20,20 @@ base k m = cond (brackets k) (above k m - 1) (above k m)
 unfoldable mutual
   -- How many must be open at once, at least, where a tree is read.
   pub opens : Tree → ℕ
-  opens (infixed m p l r) = grouped m + max (opens l) (1 + opens r)
-  opens (node k m p a b c d) = base k m + grouped m + max (opens-of a) (max (beside k + opens-of b) (max (opens-of c) (opens-of d)))
+  opens (infixed m p l r z) = grouped m + max (opens l) (1 + opens r)
+  opens (node k m p a b c d z) = base k m + grouped m + max (opens-of a) (max (beside k + opens-of b) (max (opens-of c) (opens-of d)))
 
   pub opens-of : Trees → ℕ
   opens-of nil = 0
   opens-of (t ▸ ts) = max (opens t) (opens-of ts)
 
--- Places don't count.
+-- Places and ends don't count.
 mutual
   unfolding opens seen
 
   pub opens-seen : (t : Tree) → opens (seen t) ≡ opens t
-  opens-seen (infixed m p l r) = rw (opens-seen l, opens-seen r)
-  opens-seen (node k m p a b c d) = rw (opens-of-seen a, opens-of-seen b, opens-of-seen c, opens-of-seen d)
+  opens-seen (infixed m p l r z) = rw (opens-seen l, opens-seen r)
+  opens-seen (node k m p a b c d z) = rw (opens-of-seen a, opens-of-seen b, opens-of-seen c, opens-of-seen d)
 
   pub opens-of-seen : (us : Trees) → opens-of (seens us) ≡ opens-of us
   opens-of-seen nil = refl
@@ -83,8 +83,8 @@ mutual
   unfolding opens dressed deep base
 
   pub opens-dressed : (t : Tree) → opens (dressed t) ≡ deep t
-  opens-dressed (infixed m p l r) = rw (opens-dressed l, opens-dressed r, infix-deep m)
-  opens-dressed (node k m p a b c d) = rw (opens-of-dressed a, opens-of-dressed b, opens-of-dressed c, opens-of-dressed d, row-deep k m (brackets k) refl)
+  opens-dressed (infixed m p l r z) = rw (opens-dressed l, opens-dressed r, infix-deep m)
+  opens-dressed (node k m p a b c d z) = rw (opens-of-dressed a, opens-of-dressed b, opens-of-dressed c, opens-of-dressed d, row-deep k m (brackets k) refl)
 
   pub opens-of-dressed : (us : Trees) → opens-of (dresseds us) ≡ deeps us
   opens-of-dressed nil = refl
@@ -113,8 +113,8 @@ lows-join (t ▸ us) vs h k = let z = lows-join us vs (record { low = omega (ari
 four : (e j a b c d n : ℕ) → e ≤ j → j + a ≤ n → j + b ≤ n → j + c ≤ n → j + d ≤ n → e + max a (max b (max c d)) ≤ n
 four e j a b c d n h p q r s = omega arith
 
-pub made-low : (k m p j i n : ℕ) (x y z w : Trees) → base k m + grouped m ≡ j → beside k ≡ i → j + opens-of x ≤ n → j + (i + opens-of y) ≤ n → j + opens-of z ≤ n → j + opens-of w ≤ n
-    → Low n (node k m p x y z w)
+pub made-low : {end : ℕ} (k m p j i n : ℕ) (x y z w : Trees) → base k m + grouped m ≡ j → beside k ≡ i → j + opens-of x ≤ n → j + (i + opens-of y) ≤ n → j + opens-of z ≤ n
+    → j + opens-of w ≤ n → Low n (node k m p x y z w end)
 unfolding opens
 made-low k m p j i n x y z w e f a b c d =
     record { low = four (base k m + grouped m) j (opens-of x) (beside k + opens-of y) (opens-of z) (opens-of w) n (omega arith) a (omega arith) c d }
@@ -154,8 +154,8 @@ lift x y r n h k = omega arith
 
 pub group-low : (n : ℕ) (t : Tree) → Low n t → Low (suc n) (flagged Grouped t)
 unfolding opens flagged
-group-low n (infixed m p l r) h = record { low = lift (grouped (flag Grouped m)) (grouped m) (max (opens l) (1 + opens r)) n (group-count m) (h .low) }
-group-low n (node k m p x y z w) h = record {
+group-low n (infixed m p l r z) h = record { low = lift (grouped (flag Grouped m)) (grouped m) (max (opens l) (1 + opens r)) n (group-count m) (h .low) }
+group-low n (node k m p x y z w end) h = record {
   low = lift (base k (flag Grouped m) + grouped (flag Grouped m)) (base k m + grouped m) (max (opens-of x) (max (beside k + opens-of y) (max (opens-of z) (opens-of w)))) n
       (omega (arith, group-base k m, group-count m)) (h .low);
 }
@@ -191,8 +191,8 @@ async-count m = go (eqb (m / 2 % 2) 0) refl
 
 pub start-low : (f n : ℕ) (t : Tree) → Start f → is-call t ≡ true → Low n t → Low (suc n) (flagged f t)
 unfolding opens flagged is-call
-start-low f n (infixed m p l r) s c h = never c
-start-low f n (node k m p x y z w) s c h = record {
+start-low f n (infixed m p l r z) s c h = never c
+start-low f n (node k m p x y z w end) s c h = record {
   low = lift (base k (flag f m) + grouped (flag f m)) (base k m + grouped m) (max (opens-of x) (max (beside k + opens-of y) (max (opens-of z) (opens-of w)))) n
       (go k (eqb-true k 11 c)) (h .low);
 }
@@ -200,7 +200,7 @@ start-low f n (node k m p x y z w) s c h = record {
     go : (k : ℕ) → k ≡ 11 → base k (flag f m) + grouped (flag f m) ≤ 1 + (base k m + grouped m)
     go k q = rw q (s m)
 
-pub joined-low : {n : ℕ} (m p : ℕ) (l r : Tree) → m < 256 → opens l ≤ suc n → opens r ≤ n → Low (suc n) (infixed m p l r)
+pub joined-low : {n z : ℕ} (m p : ℕ) (l r : Tree) → m < 256 → opens l ≤ suc n → opens r ≤ n → Low (suc n) (infixed m p l r z)
 unfolding opens grouped
 joined-low {n} m p l r h x y = record { low = go (ltb m 256) (lt-ltb m 256 h) }
   where

@@ -16,19 +16,19 @@ use Rattle.written.proofs.Good.{ended}
 pub data Root : Tree → Type 0 where
   an-expression : {t : Tree} → Fit expressions t → written t ≡ ended (write t) → entry-of t ≡ X → Root t
   a-statement : {t : Tree} → Fit statements t → written t ≡ ended (write t) → entry-of t ≡ S → Root t
-  a-script : {m p : ℕ} {us : Trees} → m % 256 ≡ 0 → AllFit statements us → Root (node 46 m p us nil nil nil)
+  a-script : {m p end : ℕ} {us : Trees} → m % 256 ≡ 0 → AllFit statements us → Root (node 46 m p us nil nil nil end)
 
 -- A row that any root takes, in the slot of its kind.
-refit : (s : Takes) (k m p : ℕ) (x y z w : Trees) → Fit any-root (node k m p x y z w) → takes s k m ≡ true → Fit s (node k m p x y z w)
+refit : {end : ℕ} (s : Takes) (k m p : ℕ) (x y z w : Trees) → Fit any-root (node k m p x y z w end) → takes s k m ≡ true → Fit s (node k m p x y z w end)
 unfolding fits
 refit s k m p x y z w o h = let e = row any-root k m p x y z w o .taken in record { fit = rw h (rw e at (o .fit)) }
 
 block-root : {n : ℕ} {t : Tree} → Block n t → Root t
 block-root (a-block e o l) = a-script e o
 
-module _ (k m p : ℕ) (x y z w : Trees) (f : Fit any-root (node k m p x y z w)) where
+module _ (k m p : ℕ) (x y z w : Trees) (end : ℕ) (f : Fit any-root (node k m p x y z w end)) where
   abbrev t : Tree
-  t = node k m p x y z w
+  t = node k m p x y z w end
 
   x-root : is-expression k ≡ true → eqb k 46 ≡ false → Root t
   unfolding written entry-of takes
@@ -58,10 +58,10 @@ module _ (k m p : ℕ) (x y z w : Trees) (f : Fit any-root (node k m p x y z w))
 -- Every tree that fits as a root is one of these.
 pub root : (t : Tree) → Rooted t → Root t
 unfolding written entry-of fits takes is-expression
-root (infixed m p l r) f = an-expression (record { fit = f }) refl refl
-root (node k m p x y z w) f = node-root k m p x y z w (record { fit = f })
+root (infixed m p l r end) f = an-expression (record { fit = f }) refl refl
+root (node k m p x y z w end) f = node-root k m p x y z w end (record { fit = f })
 
 -- A block opens nothing of its own.
-pub script-deep : (m p : ℕ) (us : Trees) → deep (node 46 m p us nil nil nil) ≡ deeps us
+pub script-deep : (m p : ℕ) (us : Trees) (end : ℕ) → deep (node 46 m p us nil nil nil end) ≡ deeps us
 unfolding deep deeps above beside
-script-deep m p us = omega arith
+script-deep m p us end = omega arith

@@ -200,13 +200,13 @@ module _ (rules : Rules) (ts : List ℕ) (short : length ts ≤ turns) where
     rbrace-ends : Ends SRBrace
     rbrace-ends = record { no-else = refl; no-finally = refl }
 
-    opened-none : (at c left : ℕ) → step ts at ≡ c → tok ts c ≡ SRBrace → opened rules ts (ex d) (st d) at (suc left) ≡ read (node 46 0 at nil nil nil nil) c left
+    opened-none : (at c left : ℕ) → step ts at ≡ c → tok ts c ≡ SRBrace → opened rules ts (ex d) (st d) at (suc left) ≡ read (node 46 0 at nil nil nil nil c) c left
     unfolding opened choose next-is is build
     opened-none at c left e f = rw (e, f)
 
     opened-some : (at a c1 c room r left : ℕ) (t : Tree) (us : Trees) → eqb (tok ts (step ts at)) SRBrace ≡ false → st d (step ts at) room ≡ read (t ▸ nil) a r
         → step ts a ≡ c1 → s.statements rules ts (ex d) (st d) SRBrace turns (t ▸ nil) c1 r ≡ read (t ▸ us) c (suc left)
-        → opened rules ts (ex d) (st d) at room ≡ read (node 46 0 at (t ▸ us) nil nil nil) c left
+        → opened rules ts (ex d) (st d) at room ≡ read (node 46 0 at (t ▸ us) nil nil nil c) c left
     unfolding opened choose next-is is build _>>=_
     opened-some at a c1 c room r left t us e f g h = rw (e, f, g, h)
 
@@ -216,7 +216,7 @@ module _ (rules : Rules) (ts : List ℕ) (short : length ts ≤ turns) where
     block-read (a-block {m} {p} {us = nil} e f g) at c h =
         let (s0, (c1, k, (s1, end))) = formed ts 46 m p nil nil nil nil at c h in
         record {
-          tree = node 46 0 at nil nil nil nil;
+          tree = node 46 0 at nil nil nil nil c1;
           last = c1;
           same = rw e;
           stops = end;
@@ -232,7 +232,7 @@ module _ (rules : Rules) (ts : List ℕ) (short : length ts ≤ turns) where
         let in-range : how-many us < turns = omega (arith, many ts us c2 c1 (fit-tail f) r, inside ts SRBrace c1 (s1 .0) refl) in
         let v = run d d SRBrace says rbrace-ends refl us (u .tree ▸ nil) turns c2 c1 r (s1 .0) (fit-tail f) (omega arith) in-range in
         record {
-          tree = node 46 0 at (u .tree ▸ v .trees) nil nil nil;
+          tree = node 46 0 at (u .tree ▸ v .trees) nil nil nil c1;
           last = c1;
           same = rw (u .same, v .same, e);
           stops = end;
@@ -313,7 +313,7 @@ module _ (rules : Rules) (ts : List ℕ) (short : length ts ≤ turns) where
     kept-read (a-break {m} {p} e) at c h ends =
         let (s0, (s1, end)) = formed ts 32 m p nil nil nil nil at c h in
         record {
-          tree = node 32 0 at nil nil nil nil;
+          tree = node 32 0 at nil nil nil nil (step ts at);
           last = step ts at;
           same = rw e;
           stops = end;
@@ -323,7 +323,7 @@ module _ (rules : Rules) (ts : List ℕ) (short : length ts ≤ turns) where
     kept-read (a-continue {m} {p} e) at c h ends =
         let (s0, (s1, end)) = formed ts 33 m p nil nil nil nil at c h in
         record {
-          tree = node 33 0 at nil nil nil nil;
+          tree = node 33 0 at nil nil nil nil (step ts at);
           last = step ts at;
           same = rw e;
           stops = end;
@@ -335,7 +335,7 @@ module _ (rules : Rules) (ts : List ℕ) (short : length ts ≤ turns) where
         let there : step ts (step ts at) ≡ c2 = x ∙ y in
         let semi : tok ts (step ts (step ts at)) ≡ SSemiColon = rw there (s2 .0) in
         record {
-          tree = node 34 0 (step ts at) nil nil nil nil;
+          tree = node 34 0 (step ts at) nil nil nil nil (step ts (step ts at));
           last = step ts (step ts at);
           same = rw e;
           stops = rw there end;
@@ -346,7 +346,7 @@ module _ (rules : Rules) (ts : List ℕ) (short : length ts ≤ turns) where
         let (s0, (s1, (c1, (y1, y2, y3), (c2, g, (s2, end))))) = formed ts 34 m p (t ▸ nil) nil nil nil at c h in
         let u = onto d t c1 c2 (x .ok) (x .low) g (s2 .0) in
         record {
-          tree = node 34 0 (step ts at) (u .tree ▸ nil) nil nil nil;
+          tree = node 34 0 (step ts at) (u .tree ▸ nil) nil nil nil c2;
           last = c2;
           same = rw (u .same, e);
           stops = end;
@@ -357,7 +357,7 @@ module _ (rules : Rules) (ts : List ℕ) (short : length ts ≤ turns) where
         let (s0, (s1, (s2, (c2, g, (s3, end))))) = formed ts 35 m p (t ▸ nil) nil nil nil at c h in
         let u = onto d t (step ts (step ts (step ts at))) c2 (x .ok) (x .low) g (s3 .0) in
         record {
-          tree = node 35 0 (step ts at) (u .tree ▸ nil) nil nil nil;
+          tree = node 35 0 (step ts at) (u .tree ▸ nil) nil nil nil c2;
           last = c2;
           same = rw (u .same, e);
           stops = end;
@@ -369,7 +369,7 @@ module _ (rules : Rules) (ts : List ℕ) (short : length ts ≤ turns) where
         let there : step ts at ≡ c1 = x in
         let semi : tok ts (step ts at) ≡ SSemiColon = rw there (s1 .0) in
         record {
-          tree = node 36 0 at nil nil nil nil;
+          tree = node 36 0 at nil nil nil nil (step ts at);
           last = step ts at;
           same = rw e;
           stops = rw there end;
@@ -380,7 +380,7 @@ module _ (rules : Rules) (ts : List ℕ) (short : length ts ≤ turns) where
         let (s0, (c1, g, (s1, end))) = formed ts 36 m p (t ▸ nil) nil nil nil at c h in
         let u = onto d t (step ts at) c1 (x .ok) (x .low) g (s1 .0) in
         record {
-          tree = node 36 0 at (u .tree ▸ nil) nil nil nil;
+          tree = node 36 0 at (u .tree ▸ nil) nil nil nil c1;
           last = c1;
           same = rw (u .same, e);
           stops = end;
@@ -391,7 +391,7 @@ module _ (rules : Rules) (ts : List ℕ) (short : length ts ≤ turns) where
         let (s0, (c1, g, (s1, end))) = formed ts 37 m p (t ▸ nil) nil nil nil at c h in
         let u = onto d t (step ts at) c1 (x .ok) (x .low) g (s1 .0) in
         record {
-          tree = node 37 0 at (u .tree ▸ nil) nil nil nil;
+          tree = node 37 0 at (u .tree ▸ nil) nil nil nil c1;
           last = c1;
           same = rw (u .same, e);
           stops = end;
@@ -402,7 +402,7 @@ module _ (rules : Rules) (ts : List ℕ) (short : length ts ≤ turns) where
         let (c1, g, (s1, end)) = formed ts 38 m p (t ▸ nil) nil nil nil at c h in
         let u = onto d t at c1 (x .ok) (x .low) g (s1 .0) in
         record {
-          tree = node 38 0 at (u .tree ▸ nil) nil nil nil;
+          tree = node 38 0 at (u .tree ▸ nil) nil nil nil c1;
           last = c1;
           same = rw (u .same, e);
           stops = end;
@@ -417,7 +417,7 @@ module _ (rules : Rules) (ts : List ℕ) (short : length ts ≤ turns) where
         let uz = body-read z bz c2 c3 hz in
         let uw = finally-read mw (uz .last) c3 c4 c (uz .stops) (uz .on) hf (rw end at hw) ends in
         record {
-          tree = node 39 0 at (ux .tree ▸ nil) (uy .tree ▸ nil) (uz .tree ▸ nil) (uw .trees);
+          tree = node 39 0 at (ux .tree ▸ nil) (uy .tree ▸ nil) (uz .tree ▸ nil) (uw .trees) (uw .last);
           last = uw .last;
           same = rw (ux .same, uy .same, uz .same, uw .same, e);
           stops = uw .stops;
@@ -432,7 +432,7 @@ module _ (rules : Rules) (ts : List ℕ) (short : length ts ≤ turns) where
         let us1 = parameters us os ls (step ts (step ts at)) c1 (s2 .1) hs (s3 .0) in
         let ut = body-read t bt (step ts c1) c2 ht in
         record {
-          tree = node 40 0 (step ts at) (us1 .trees) (ut .tree ▸ nil) nil nil;
+          tree = node 40 0 (step ts at) (us1 .trees) (ut .tree ▸ nil) nil nil (ut .last);
           last = ut .last;
           same = rw (us1 .same, ut .same, e);
           stops = ut .stops ∙ end;
@@ -447,7 +447,7 @@ module _ (rules : Rules) (ts : List ℕ) (short : length ts ≤ turns) where
         let uy = upto d y (step ts c1) c2 SImpl ey hy (s2 .0) (closes by-arrow) in
         let uz = body-read z bz (step ts c2) c3 hz in
         record {
-          tree = node 41 0 at (ux .tree ▸ nil) (uy .tree ▸ nil) (uz .tree ▸ nil) nil;
+          tree = node 41 0 at (ux .tree ▸ nil) (uy .tree ▸ nil) (uz .tree ▸ nil) nil (uz .last);
           last = uz .last;
           same = rw (ux .same, uy .same, uz .same, e);
           stops = uz .stops ∙ end;
@@ -462,7 +462,7 @@ module _ (rules : Rules) (ts : List ℕ) (short : length ts ≤ turns) where
         let ux = upto d x (step ts (step ts at)) c1 SRparen ex1 hx (s2 .0) (closes by-rparen) in
         let uy = body-read y by (step ts c1) c2 hy in
         record {
-          tree = node 42 0 at (ux .tree ▸ nil) (uy .tree ▸ nil) nil nil;
+          tree = node 42 0 at (ux .tree ▸ nil) (uy .tree ▸ nil) nil nil (uy .last);
           last = uy .last;
           same = rw (ux .same, uy .same, e);
           stops = uy .stops ∙ end;
@@ -476,7 +476,7 @@ module _ (rules : Rules) (ts : List ℕ) (short : length ts ≤ turns) where
         let ux = upto d x (step ts at) c1 SComma ex1 hx (s1 .0) (closes by-comma) in
         let uy = onto d y (step ts c1) c2 (ey .ok) (ey .low) hy (s2 .0) in
         record {
-          tree = node 43 0 at (ux .tree ▸ nil) (uy .tree ▸ nil) nil nil;
+          tree = node 43 0 at (ux .tree ▸ nil) (uy .tree ▸ nil) nil nil c2;
           last = c2;
           same = rw (ux .same, uy .same, e);
           stops = end;
@@ -491,7 +491,7 @@ module _ (rules : Rules) (ts : List ℕ) (short : length ts ≤ turns) where
         let uy = body-read y by (step ts c1) c2 hy in
         let uz = else-read mz (uy .last) c2 c3 c (uy .stops) (uy .on) hf (rw end at hz) ends in
         record {
-          tree = node 44 0 at (ux .tree ▸ nil) (uy .tree ▸ nil) (uz .trees) nil;
+          tree = node 44 0 at (ux .tree ▸ nil) (uy .tree ▸ nil) (uz .trees) nil (uz .last);
           last = uz .last;
           same = rw (ux .same, uy .same, uz .same, e);
           stops = uz .stops;
@@ -507,7 +507,7 @@ module _ (rules : Rules) (ts : List ℕ) (short : length ts ≤ turns) where
         let uz = upto d z (step ts c2) c3 SImpl ez hz (s3 .0) (closes by-arrow) in
         let uw = body-read w bw (step ts c3) c4 hw in
         record {
-          tree = node 45 0 at (ux .tree ▸ nil) (uy .tree ▸ nil) (uz .tree ▸ nil) (uw .tree ▸ nil);
+          tree = node 45 0 at (ux .tree ▸ nil) (uy .tree ▸ nil) (uz .tree ▸ nil) (uw .tree ▸ nil) (uw .last);
           last = uw .last;
           same = rw (ux .same, uy .same, uz .same, uw .same, e);
           stops = uw .stops ∙ end;

@@ -71,15 +71,15 @@ module _ (ts : List ℕ) where
     laid (child i ∷ qs) p at c h = let (b, k, l) = cut at c (piece (child i) m p ss) (pieces qs m p ss) h in (b, k, laid qs p b c l)
     laid (children i w ∷ qs) p at c h = let (b, k, l) = cut at c (piece (children i w) m p ss) (pieces qs m p ss) h in (b, k, laid qs p b c l)
 
-  -- The same of a tree.
+  -- The same of a tree, whose end doesn't show.
   abbrev pub Form : (k m : ℕ) (a b c d : Trees) (at e : ℕ) → Type 0
   Form k m a b c d at e = Laid m (writes a ∷ writes b ∷ writes c ∷ writes d ∷ []) (form k) at e
 
-  pub formed : (k m p : ℕ) (a b c d : Trees) (at e : ℕ) → Stood at (write (node k m p a b c d)) e → Form k m a b c d at e
+  pub formed : (k m p : ℕ) (a b c d : Trees) (at e : ℕ) → Stood at (write (node k m p a b c d 0)) e → Form k m a b c d at e
   unfolding write
   formed k m p a b c d at e h = laid m (writes a ∷ writes b ∷ writes c ∷ writes d ∷ []) (form k) p at e h
 
-  pub infix-formed : (m p : ℕ) (l r : Tree) (at e : ℕ) → Stood at (write (infixed m p l r)) e → Laid m ((write l ∷ []) ∷ (write r ∷ []) ∷ []) (form 12) at e
+  pub infix-formed : (m p : ℕ) (l r : Tree) (at e : ℕ) → Stood at (write (infixed m p l r 0)) e → Laid m ((write l ∷ []) ∷ (write r ∷ []) ∷ []) (form 12) at e
   unfolding write
   infix-formed m p l r at e h = laid m ((write l ∷ []) ∷ (write r ∷ []) ∷ []) (form 12) p at e h
 

@@ -20,7 +20,7 @@ abbrev x : Tree
 x = t.identifier 9
 
 -- a + b * c is written ( a + ( b * c ) ) ; with the places of its names.
-sum : written (t.block 0 (t.expression-statement 0 (infixed 0 1 (t.identifier 0) (infixed 2 3 (t.identifier 2) (t.identifier 4))) ▸ nil))
+sum : written (t.block 0 (t.expression-statement 0 (infixed 0 1 (t.identifier 0) (infixed 2 3 (t.identifier 2) (t.identifier 4) 0) 0) ▸ nil))
     ≡ (SLParen, 0) ∷ (Identifier, 0) ∷ (Operator * 256 + 1, 0) ∷ (SLParen, 0) ∷ (Identifier, 2) ∷ (Operator * 256 + 3, 0) ∷ (Identifier, 4) ∷ (SRparen, 0) ∷ (SRparen, 0)
     ∷ (SSemiColon, 0) ∷ (EOF, 0) ∷ []
 unfolding infix-signs forms look form joined separated empty-slot piece pieces write writes written
@@ -35,7 +35,7 @@ body = t.block 1 (t.break 2 ▸ t.continue 3 ▸ nil)
 abbrev all : Tree
 all = t.block 0 (
     t.expression-statement 0 (t.hash 4 (t.pair 1 x (t.none 2) ▸ t.pair 1 dotted (t.array 2 (t.int 3 ▸ t.float 4 ▸ nil)) ▸ nil))
-    ▸ t.expression-statement 0 (flagged 256 (infixed 7 8 (infixed 0 1 x x) (t.lambda 4 (x ▸ x ▸ nil) (t.char 5))))
+    ▸ t.expression-statement 0 (flagged 256 (infixed 7 8 (infixed 0 1 x x 0) (t.lambda 4 (x ▸ x ▸ nil) (t.char 5)) 0))
     ▸ t.expression-statement 0 (flagged 1 (flagged 2 (t.call 7 (t.index 2 (t.array 1 nil) (t.string 7)) (t.bool 1 4 ▸ t.bool 0 4 ▸ nil))))
     ▸ t.expression-statement 0 (t.call 7 (t.prefix 2 2 x) nil)
     ▸ t.expression-statement 0 (t.suffix 1 7 (t.shell 1 2 (t.shell 0 3 (t.hash 4 nil))))
@@ -44,7 +44,7 @@ all = t.block 0 (
     ▸ t.function 1 nil body ▸ t.function 1 (x ▸ dotted ▸ nil) body ▸ t.for 1 x dotted body ▸ t.while 1 x body ▸ t.assert 1 x x
     ▸ t.if 4 x body nil ▸ t.if 4 x body (body ▸ nil) ▸ t.foreach 3 x x x body ▸ nil)
 
--- What was read, without places and grouped marks.
+-- What was read, without places, ends and grouped marks.
 unfoldable plainly : Parsed Trees → Parsed Trees
 plainly (refused n p) = refused n p
 plainly (read us at room) = read (plains us) at room

@@ -68,14 +68,14 @@ module _ (rules : Rules) (ts : List ℕ) (c room left : ℕ) where
         place = omega (arith, one-on ts (u .last) (u .on), u .stops);
       }
 
-  by-script : (m p : ℕ) (us : Trees) → Array ts (joined (writes us)) c → m % 256 ≡ 0 → AllFit statements us → deeps us ≤ nesting
-      → size (node 46 m p us nil nil nil) + left ≡ room → Got (whole-script rules ts room) left 1 c (node 46 m p us nil nil nil)
+  by-script : (m p : ℕ) (us : Trees) (end : ℕ) → Array ts (joined (writes us)) c → m % 256 ≡ 0 → AllFit statements us → deeps us ≤ nesting
+      → size (node 46 m p us nil nil nil end) + left ≡ room → Got (whole-script rules ts room) left 1 c (node 46 m p us nil nil nil end)
   unfolding whole-script need _>>_ _>>=_ build plains plain join
-  by-script m p us a e o l q =
+  by-script m p us end a e o l q =
       let in-range : how-many us < turns = omega (arith, many ts us 0 c o (a .stood), a .short, a .inside) in
       let u = run rules ts (a .short) nesting nesting EOF (says rules ts (a .short) nesting) eof-ends refl us nil turns 0 c (a .stood) (a .eof) o l in-range in
       record {
-        trees = node 46 0 0 (u .trees) nil nil nil ▸ nil;
+        trees = node 46 0 0 (u .trees) nil nil nil c ▸ nil;
         at = c;
         reads = rw (a .checked, u .reads room (suc left) (omega arith));
         same = rw (plains-of (u .trees) us (u .same), e);
@@ -100,9 +100,9 @@ module _ (rules : Rules) (room left : ℕ) where
   unfolding written entry-of asked back-from-end is-expression
   root-back (an-expression {t} o w e) short q l = x-back t o w e short q l
   root-back (a-statement {t} o w e) short q l = s-back t o w e short q l
-  root-back (a-script {m} {p} {us} e o) short q l =
+  root-back (a-script {m} {p} {end} {us} e o) short q l =
       let xs = joined (writes us) in
-      let g = by-script rules (words (ended xs)) (length xs) room left m p us (array xs (fine-statements us) short) e o (rw (script-deep m p us) at l) q in
+      let g = by-script rules (words (ended xs)) (length xs) room left m p us end (array xs (fine-statements us) short) e o (rw (script-deep m p us end) at l) q in
       record { trees = g .trees; at = g .at; reads = g .reads; same = g .same; place = g .place ∙ sym (ended-length xs) }
 
 pub round-trip : RoundTrip

@@ -17,10 +17,10 @@ use Rattle.slots.specs.Slots.{expressions, statements, blocks, any-root, one, a
 use Rattle.written.specs.Written.{infix-signs, written, words}
 
 unfoldable mutual
-  -- A tree without its places and grouped marks.
+  -- A tree without its places, ends and grouped marks.
   pub plain : Tree → Tree
-  plain (infixed m p l r) = infixed (m % Grouped) 0 (plain l) (plain r)
-  plain (node k m p a b c d) = node k (m % Grouped) 0 (plains a) (plains b) (plains c) (plains d)
+  plain (infixed m p l r z) = infixed (m % Grouped) 0 (plain l) (plain r) 0
+  plain (node k m p a b c d z) = node k (m % Grouped) 0 (plains a) (plains b) (plains c) (plains d) 0
 
   -- The same of the trees of a slot.
   pub plains : Trees → Trees
@@ -41,8 +41,8 @@ beside k = cond (eqb k 10 || eqb k 11) 1 0
 unfoldable mutual
   -- How many are open at once, at most, where what is written of a tree is read.
   pub deep : Tree → ℕ
-  deep (infixed m p l r) = 1 + max (deep l) (1 + deep r)
-  deep (node k m p a b c d) = above k m + max (deeps a) (max (beside k + deeps b) (max (deeps c) (deeps d)))
+  deep (infixed m p l r z) = 1 + max (deep l) (1 + deep r)
+  deep (node k m p a b c d z) = above k m + max (deeps a) (max (beside k + deeps b) (max (deeps c) (deeps d)))
 
   -- The same of the trees of a slot.
   pub deeps : Trees → ℕ
@@ -51,8 +51,8 @@ unfoldable mutual
 
 -- The entry that reads what is written of a root: an expression, a statement, or a block as a whole script.
 unfoldable pub entry-of : Tree → Entry
-entry-of (infixed m p l r) = X
-entry-of (node k m p a b c d) = cond (is-expression k) X (cond (eqb k 46) W S)
+entry-of (infixed m p l r z) = X
+entry-of (node k m p a b c d z) = cond (is-expression k) X (cond (eqb k 46) W S)
 
 -- What an entry reads from place 0.
 unfoldable pub asked : Rules → Entry → List ℕ → (room : ℕ) → Parsed Trees
@@ -70,7 +70,7 @@ back-from-end X = 2
 back-from-end S = 2
 back-from-end W = 1
 
--- What is written of a tree is read as the same tree, but for places and grouped marks, and so many rows are left.
+-- What is written of a tree is read as the same tree, but for places, ends and grouped marks, and so many rows are left.
 pub record Back (rules : Rules) (t : Tree) (room left : ℕ) : Type 0 where
   pub trees : Trees
   pub at : ℕ

@@ -127,8 +127,8 @@ pieces (q ∷ qs) m p ss = piece q m p ss ++ pieces qs m p ss
 unfoldable mutual
   -- The tokens of a tree.
   pub write : Tree → List Token
-  write (infixed m p l r) = pieces (form 12) m p ((write l ∷ []) ∷ (write r ∷ []) ∷ [])
-  write (node k m p a b c d) = pieces (form k) m p (writes a ∷ writes b ∷ writes c ∷ writes d ∷ [])
+  write (infixed m p l r z) = pieces (form 12) m p ((write l ∷ []) ∷ (write r ∷ []) ∷ [])
+  write (node k m p a b c d z) = pieces (form k) m p (writes a ∷ writes b ∷ writes c ∷ writes d ∷ [])
 
   -- The tokens of each tree of a slot.
   pub writes : Trees → List (List Token)
@@ -137,8 +137,8 @@ unfoldable mutual
 
 -- The written form of a root: a block has no braces there, and EOF is behind it.
 unfoldable pub written : Tree → List Token
-written (infixed m p l r) = write (infixed m p l r) ++ ((EOF, 0) ∷ [])
-written (node k m p a b c d) = cond (eqb k 46) (joined (writes a)) (write (node k m p a b c d)) ++ ((EOF, 0) ∷ [])
+written (infixed m p l r z) = write (infixed m p l r z) ++ ((EOF, 0) ∷ [])
+written (node k m p a b c d z) = cond (eqb k 46) (joined (writes a)) (write (node k m p a b c d z)) ++ ((EOF, 0) ∷ [])
 
 -- The words of tokens.
 abbrev pub words : List Token → List ℕ

@@ -5,7 +5,7 @@ use native.Mathlib.Omega.{arith}
 use Rattle.reader.specs.Entries.{script}
 use Rattle.reader.specs.Meets.{of-node}
 use Rattle.reader.proofs.Answers.{no-list, taken, TakenOf, pass, by-eq, then-read}
-use Rattle.reader.proofs.Moves.{fits-same}
+use Rattle.reader.proofs.Moves.{fits-same, small-in}
 use borrow.Author.Needs.{needs}
 use Rattle.reader.proofs.script.Statement.{statement}
 use Rattle.reader.proofs.script.Tie as tie
@@ -33,7 +33,7 @@ unfolding script
 returns c = pass _ (rw (c .before .before .before .before .before .before .nesting .ensures) at (c .before .before .before .before .statements .ensures .1 _ _ _ _ (no-list _ _ (c .before .before .before .before .before .before .before .before .before .pre .within)) refl)) (c .enum-told .given .1)
 
 put-row-requires : tie.Need-put-row-requires
-put-row-requires c κs = (fits-same _ _ _ (c .before .before .before .before .before .before .before .before .before .before .before .pre .fits) (c .before .before .before .before .before .before .statements .kept .1 .0), omega arith)
+put-row-requires c κs = (fits-same _ _ _ (c .before .before .before .before .before .before .before .before .before .before .before .pre .fits) (c .before .before .before .before .before .before .statements .kept .1 .0), omega arith, small-in (c .before .before .before .before .before .before .before .before .before .before .before .pre) (read-1 (c .before .before) .stands .within))
 
 same-length-2 : tie.Need-same-length-2
 same-length-2 c = c .before .before .put-row .kept .0 ∙ c .before .before .before .before .before .before .before .before .before .statements .kept .1 .0

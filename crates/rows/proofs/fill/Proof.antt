@@ -1,4 +1,4 @@
--- `fill` meets its contract: the eight stores are the row's words at the front of the part.
+-- `fill` meets its contract: the nine stores are the row's words at the front of the part.
 use Prim.Native.Nat.{ℕ, _<_}
 use mathlib.Core.List.{List, [], _∷_}
 use native.Mathlib.Nat.{lt-of-lt-of-le}
@@ -16,35 +16,39 @@ inside c k ws h = lt-length-sets (c .args .part .now) 0 ws (lt-of-lt-of-le h (c 
 
 slice-write-part : tie.Need-slice-write-part
 unfolding IsLe
-slice-write-part c = inside c 0 [] (le-by-compare 1 8 tt)
+slice-write-part c = inside c 0 [] (le-by-compare 1 width tt)
 
 slice-write-part-2 : tie.Need-slice-write-part-2
 unfolding IsLe
-slice-write-part-2 c = inside c 1 (c .args .row .kind ∷ []) (le-by-compare 2 8 tt)
+slice-write-part-2 c = inside c 1 (c .args .row .kind ∷ []) (le-by-compare 2 width tt)
 
 slice-write-part-3 : tie.Need-slice-write-part-3
 unfolding IsLe
-slice-write-part-3 c = inside c 2 (c .args .row .kind ∷ c .args .row .mark ∷ []) (le-by-compare 3 8 tt)
+slice-write-part-3 c = inside c 2 (c .args .row .kind ∷ c .args .row .mark ∷ []) (le-by-compare 3 width tt)
 
 slice-write-part-4 : tie.Need-slice-write-part-4
 unfolding IsLe
-slice-write-part-4 c = inside c 3 (c .args .row .kind ∷ c .args .row .mark ∷ c .args .row .place ∷ []) (le-by-compare 4 8 tt)
+slice-write-part-4 c = inside c 3 (c .args .row .kind ∷ c .args .row .mark ∷ c .args .row .place ∷ []) (le-by-compare 4 width tt)
 
 slice-write-part-5 : tie.Need-slice-write-part-5
 unfolding IsLe
-slice-write-part-5 c = inside c 4 (c .args .row .kind ∷ c .args .row .mark ∷ c .args .row .place ∷ c .args .row .c0 ∷ []) (le-by-compare 5 8 tt)
+slice-write-part-5 c = inside c 4 (c .args .row .kind ∷ c .args .row .mark ∷ c .args .row .place ∷ c .args .row .c0 ∷ []) (le-by-compare 5 width tt)
 
 slice-write-part-6 : tie.Need-slice-write-part-6
 unfolding IsLe
-slice-write-part-6 c = inside c 5 (c .args .row .kind ∷ c .args .row .mark ∷ c .args .row .place ∷ c .args .row .c0 ∷ c .args .row .c1 ∷ []) (le-by-compare 6 8 tt)
+slice-write-part-6 c = inside c 5 (c .args .row .kind ∷ c .args .row .mark ∷ c .args .row .place ∷ c .args .row .c0 ∷ c .args .row .c1 ∷ []) (le-by-compare 6 width tt)
 
 slice-write-part-7 : tie.Need-slice-write-part-7
 unfolding IsLe
-slice-write-part-7 c = inside c 6 (c .args .row .kind ∷ c .args .row .mark ∷ c .args .row .place ∷ c .args .row .c0 ∷ c .args .row .c1 ∷ c .args .row .c2 ∷ []) (le-by-compare 7 8 tt)
+slice-write-part-7 c = inside c 6 (c .args .row .kind ∷ c .args .row .mark ∷ c .args .row .place ∷ c .args .row .c0 ∷ c .args .row .c1 ∷ c .args .row .c2 ∷ []) (le-by-compare 7 width tt)
 
 slice-write-part-8 : tie.Need-slice-write-part-8
 unfolding IsLe
-slice-write-part-8 c = inside c 7 (c .args .row .kind ∷ c .args .row .mark ∷ c .args .row .place ∷ c .args .row .c0 ∷ c .args .row .c1 ∷ c .args .row .c2 ∷ c .args .row .c3 ∷ []) (le-by-compare 8 8 tt)
+slice-write-part-8 c = inside c 7 (c .args .row .kind ∷ c .args .row .mark ∷ c .args .row .place ∷ c .args .row .c0 ∷ c .args .row .c1 ∷ c .args .row .c2 ∷ c .args .row .c3 ∷ []) (le-by-compare 8 width tt)
+
+slice-write-part-9 : tie.Need-slice-write-part-9
+unfolding IsLe
+slice-write-part-9 c = inside c 8 (c .args .row .kind ∷ c .args .row .mark ∷ c .args .row .place ∷ c .args .row .c0 ∷ c .args .row .c1 ∷ c .args .row .c2 ∷ c .args .row .c3 ∷ 0 ∷ []) (le-by-compare 9 width tt)
 
 same-length : tie.Need-same-length
 same-length c = length-sets (c .args .part .now) 0 (words (c .args .row))
@@ -64,5 +68,6 @@ fill-spec =
     slice-write-part-6
     slice-write-part-7
     slice-write-part-8
+    slice-write-part-9
     same-length
     returns)

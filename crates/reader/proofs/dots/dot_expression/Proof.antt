@@ -10,7 +10,7 @@ use Rattle.grammar.specs.Expressions.{dots, dot-expression, get-identifier}
 use Rattle.reader.specs.Meets.{of-node}
 use Rattle.reader.proofs.Answers.{told, taken, TakenOf, pass, by-eq, need-met, choose-true, choose-false, then-read, then-eq}
 use Rattle.reader.proofs.Parts.{ready-lent, back-read, in-part, back-same}
-use Rattle.reader.proofs.Moves.{fits-same, ready-same, small}
+use Rattle.reader.proofs.Moves.{fits-same, ready-same, small, small-in}
 use borrow.Author.Needs.{needs}
 use Rattle.reader.proofs.dots.dot_expression.Statement.{statement}
 use Rattle.reader.proofs.dots.dot_expression.Tie as tie
@@ -90,7 +90,7 @@ add-put-row : tie.Need-add-put-row
 add-put-row c = omega (arith, read-2 (c .before .before) .stands .front .fit, c .before .before .before .before .before .before .before .before .before .before .before .before .before .before .before .before .before .before .before .before .pre .0 .fits)
 
 put-row-requires : tie.Need-put-row-requires
-put-row-requires c κs = (fits-same _ _ _ (c .before .before .before .before .before .before .before .before .before .before .before .before .before .before .before .before .before .before .before .before .pre .0 .fits) (back-same (c .before .before .before .before .before .before .before .before .end .result) (c .before .before .before .before .before .before .before .before .before .before .before .before .before .before .before .before .leaf .last .0) (c .before .before .before .before .before .before .dots .last .1 .0) (c .before .before .before .before .before .before .dots .kept .1 .0) ∙ c .before .before .before .before .before .before .before .before .before .before .before .before .before .before .before .before .leaf .kept .0), small (c .before .before .before .before .before .before .before .before .before .before .before .before .before .before .before .before .before .before .before .before .pre .0))
+put-row-requires c κs = (fits-same _ _ _ (c .before .before .before .before .before .before .before .before .before .before .before .before .before .before .before .before .before .before .before .before .pre .0 .fits) (back-same (c .before .before .before .before .before .before .before .before .end .result) (c .before .before .before .before .before .before .before .before .before .before .before .before .before .before .before .before .leaf .last .0) (c .before .before .before .before .before .before .dots .last .1 .0) (c .before .before .before .before .before .before .dots .kept .1 .0) ∙ c .before .before .before .before .before .before .before .before .before .before .before .before .before .before .before .before .leaf .kept .0), small (c .before .before .before .before .before .before .before .before .before .before .before .before .before .before .before .before .before .before .before .before .pre .0), small-in (c .before .before .before .before .before .before .before .before .before .before .before .before .before .before .before .before .before .before .before .before .pre .0) (read-2 (c .before .before) .stands .within))
 
 same-length-4 : tie.Need-same-length-4
 same-length-4 c = c .before .before .put-row .kept .0 ∙ back-same (c .before .before .before .before .before .before .before .before .before .before .before .end .result) (c .before .before .before .before .before .before .before .before .before .before .before .before .before .before .before .before .before .before .before .leaf .last .0) (c .before .before .before .before .before .before .before .before .before .dots .last .1 .0) (c .before .before .before .before .before .before .before .before .before .dots .kept .1 .0) ∙ c .before .before .before .before .before .before .before .before .before .before .before .before .before .before .before .before .before .before .before .leaf .kept .0

@@ -11,7 +11,7 @@ use Rattle.grammar.specs.Expressions.{dots, get-identifier}
 use Rattle.reader.specs.Meets.{many, of-node}
 use Rattle.reader.proofs.Answers.{bounds, no-list, taken, TakenOf, pass, by-eq, refuses, need-met, need-failed, choose-true, choose-false, then-read, then-refused, then-eq}
 use Rattle.reader.proofs.Loops.{Turning, starts, stops, lengthens}
-use Rattle.reader.proofs.Moves.{on-step, within-step, stands-step, moves-next}
+use Rattle.reader.proofs.Moves.{on-step, within-step, stands-step, moves-next, small-in}
 use borrow.Author.Needs.{needs}
 use Rattle.reader.proofs.dots.dots.Statement.{statement}
 use Rattle.reader.proofs.dots.dots.Tie as tie
@@ -52,7 +52,7 @@ unfolding dots get-identifier
 returns c = refuses _ _ _ (c .before .before .before .before .before .before .loop .inv .state .eq ∙ choose-true _ _ (sym (c .before .before .before .before .before .next-symbol-is .ensures) ∙ c .before .before .before .before .if1 .taken) ∙ then-refused _ (rw (← (c .before .before .iterate2 .ensures ∙ ap (step _) (c .before .before .before .iterate .ensures))) (need-failed _ _ _ (sym (c .before .is-identifier .ensures) ∙ not-true _ (c .if2 .taken)))))
 
 put-row-requires : tie.Need-put-row-requires Inv-loop μ-loop
-put-row-requires c κs = (omega (arith, c .before .before .before .before .before .before .before .before .before .before .pre .fits, c .before .before .before .before .before .before .before .loop .inv .same), omega (arith, within-step _ _ (c .before .before .before .iterate2 .ensures) (within-step _ _ (c .before .before .before .before .iterate .ensures) (c .before .before .before .before .before .before .before .loop .inv .state .stands .within)), c .before .before .before .before .before .before .before .before .before .before .pre .sound .few))
+put-row-requires c κs = (omega (arith, c .before .before .before .before .before .before .before .before .before .before .pre .fits, c .before .before .before .before .before .before .before .loop .inv .same), small-in (c .before .before .before .before .before .before .before .before .before .before .pre) (within-step _ _ (c .before .before .before .iterate2 .ensures) (within-step _ _ (c .before .before .before .before .iterate .ensures) (c .before .before .before .before .before .before .before .loop .inv .state .stands .within))), small-in (c .before .before .before .before .before .before .before .before .before .before .pre) (within-step _ _ (c .before .before .before .iterate2 .ensures) (within-step _ _ (c .before .before .before .before .iterate .ensures) (c .before .before .before .before .before .before .before .loop .inv .state .stands .within))))
 
 enum-known-r : tie.Need-enum-known-r Inv-loop μ-loop
 enum-known-r c = c .match .keys1
@@ -81,7 +81,7 @@ unfolding dots get-identifier
 loop-again c =
     record {
       same = c .before .before .before .link .kept .0 ∙ c .before .before .before .before .before .before .before .before .before .before .put-row .kept .0 ∙ c .before .before .before .before .before .before .before .before .before .before .before .before .before .before .before .before .before .before .loop .inv .same;
-      state = rw (c .first-of .ensures, c .before .before .before .link .ensures) (lengthens (c .before .before .before .before .before .before .before .before .before .before .before .before .before .before .before .before .before .before .loop .inv .state) _ (read-1 (c .before .before .before .before .before .before) .stands) (read-1 (c .before .before .before .before .before .before) .head) (choose-true _ _ (sym (c .before .before .before .before .before .before .before .before .before .before .before .before .before .before .before .before .before .next-symbol-is .ensures) ∙ c .before .before .before .before .before .before .before .before .before .before .before .before .before .before .before .before .if1 .taken) ∙ then-eq _ (rw (← (c .before .before .before .before .before .before .before .before .before .before .before .before .before .before .iterate2 .ensures ∙ ap (step _) (c .before .before .before .before .before .before .before .before .before .before .before .before .before .before .before .iterate .ensures))) (need-met _ _ _ (sym (c .before .before .before .before .before .before .before .before .before .before .before .before .before .is-identifier .ensures) ∙ not-false _ (c .before .before .before .before .before .before .before .before .before .before .before .before .if2 .left)))) ∙ then-read _ (read-1 (c .before .before .before .before .before .before) .eq)) (omega (arith, bounds (c .before .before .before .before .before .before .before .before .before .before .put-row .ensures (c .before .before .before .before .before .before .before .before .before .before .before .before .before .before .before .before .before .before .before .before .before .args .tokens .now) (within-step _ _ (c .before .before .before .before .before .before .before .before .before .before .before .before .before .before .iterate2 .ensures) (within-step _ _ (c .before .before .before .before .before .before .before .before .before .before .before .before .before .before .before .iterate .ensures) (c .before .before .before .before .before .before .before .before .before .before .before .before .before .before .before .before .before .before .loop .inv .state .stands .within))) .0) (c .before .before .before .before .before .before .r .given .1) .on, moves-next SDot (c .before .before .before .before .before .before .before .before .before .before .before .before .before .before .before .before .before .before .before .before .before .pre .sound) (c .before .before .before .before .before .before .before .before .before .before .before .before .before .before .before .before .before .before .loop .inv .state .stands .within) (sym (c .before .before .before .before .before .before .before .before .before .before .before .before .before .before .before .before .before .next-symbol-is .ensures) ∙ c .before .before .before .before .before .before .before .before .before .before .before .before .before .before .before .before .if1 .taken) refl, c .before .before .before .before .before .before .before .before .before .before .before .before .before .before .before .iterate .ensures, on-step _ _ (c .before .before .before .before .before .before .before .before .before .before .before .before .before .before .iterate2 .ensures))) (omega arith) (read-1 (c .before .before .before .before .before .before) .stands .within));
+      state = rw (c .first-of .ensures, c .before .before .before .link .ensures) (lengthens (c .before .before .before .before .before .before .before .before .before .before .before .before .before .before .before .before .before .before .loop .inv .state) _ (read-1 (c .before .before .before .before .before .before) .stands) (read-1 (c .before .before .before .before .before .before) .head) (choose-true _ _ (sym (c .before .before .before .before .before .before .before .before .before .before .before .before .before .before .before .before .before .next-symbol-is .ensures) ∙ c .before .before .before .before .before .before .before .before .before .before .before .before .before .before .before .before .if1 .taken) ∙ then-eq _ (rw (← (c .before .before .before .before .before .before .before .before .before .before .before .before .before .before .iterate2 .ensures ∙ ap (step _) (c .before .before .before .before .before .before .before .before .before .before .before .before .before .before .before .iterate .ensures))) (need-met _ _ _ (sym (c .before .before .before .before .before .before .before .before .before .before .before .before .before .is-identifier .ensures) ∙ not-false _ (c .before .before .before .before .before .before .before .before .before .before .before .before .if2 .left)))) ∙ then-read _ (read-1 (c .before .before .before .before .before .before) .eq)) (omega (arith, bounds (c .before .before .before .before .before .before .before .before .before .before .put-row .ensures (c .before .before .before .before .before .before .before .before .before .before .before .before .before .before .before .before .before .before .before .before .before .args .tokens .now) (within-step _ _ (c .before .before .before .before .before .before .before .before .before .before .before .before .before .before .iterate2 .ensures) (within-step _ _ (c .before .before .before .before .before .before .before .before .before .before .before .before .before .before .before .iterate .ensures) (c .before .before .before .before .before .before .before .before .before .before .before .before .before .before .before .before .before .before .loop .inv .state .stands .within))) .0) (c .before .before .before .before .before .before .r .given .1) .on, moves-next SDot (c .before .before .before .before .before .before .before .before .before .before .before .before .before .before .before .before .before .before .before .before .before .pre .sound) (c .before .before .before .before .before .before .before .before .before .before .before .before .before .before .before .before .before .before .loop .inv .state .stands .within) (sym (c .before .before .before .before .before .before .before .before .before .before .before .before .before .before .before .before .before .next-symbol-is .ensures) ∙ c .before .before .before .before .before .before .before .before .before .before .before .before .before .before .before .before .if1 .taken) refl, c .before .before .before .before .before .before .before .before .before .before .before .before .before .before .before .iterate .ensures, on-step _ _ (c .before .before .before .before .before .before .before .before .before .before .before .before .before .before .iterate2 .ensures))) (omega arith) (read-1 (c .before .before .before .before .before .before) .stands .within))
     }
 
 same-length-3 : tie.Need-same-length-3 Inv-loop μ-loop

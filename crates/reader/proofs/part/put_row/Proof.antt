@@ -12,17 +12,20 @@ use Rattle.reader.proofs.part.put_row.Tie as tie
 cast-t17 : tie.Need-cast-t17
 cast-t17 c = search needs
 
+cast-t18 : tie.Need-cast-t18
+cast-t18 c = search needs
+
 build-requires : tie.Need-build-requires
 build-requires c κs = search needs
 
 enum-known-b : tie.Need-enum-known-b
 enum-known-b c = c .match .keys1
 
-add-t21 : tie.Need-add-t21
-add-t21 c = let b = when-built (c .before .before .before .before .before .build .ensures) (c .before .b .given .1) in omega (arith, b .count, b .fit, c .before .before .before .before .before .before .before .before .pre .0)
+add-t22 : tie.Need-add-t22
+add-t22 c = let b = when-built (c .before .before .before .before .before .build .ensures) (c .before .b .given .1) in omega (arith, b .count, b .fit, c .before .before .before .before .before .before .before .before .pre .0)
 
-cast-t22 : tie.Need-cast-t22
-cast-t22 c = let b = when-built (c .before .before .before .before .before .build .ensures) (c .before .b .given .1) in omega (arith, b .count, b .fit, c .before .before .before .before .before .before .before .before .pre .0)
+cast-t23 : tie.Need-cast-t23
+cast-t23 c = let b = when-built (c .before .before .before .before .before .build .ensures) (c .before .b .given .1) in omega (arith, b .count, b .fit, c .before .before .before .before .before .before .before .before .pre .0)
 
 enum-known-b-2 : tie.Need-enum-known-b-2
 enum-known-b-2 c = c .match .keys2
@@ -32,10 +35,9 @@ same-length c = search needs
 
 returns : tie.Need-returns
 returns c ts lt =
-    let b = when-built (c .before .before .before .before .before .build .ensures) (c .before .b .given .1) in (
-      bounded-tree (omega (arith, b .count, b .fit)) (omega arith) lt,
-      λ from bs slots t zs left s e. built bs s e (omega (arith, b .fit)) (b .pool) (ap (λ (k : ℕ). the.Tree k (c .before .before .before .before .before .before .before .before .args .first + k) (c .before .before .before .before .before .before .before .before .args .c)) (b .count)),
-    )
+    let b = when-built (c .before .before .before .before .before .build .ensures) (c .before .b .given .1) in
+    (bounded-tree (omega (arith, b .count, b .fit)) (omega arith) lt,
+    λ from bs slots t zs left s e. built bs s e (omega (arith, b .fit)) (b .pool) (ap (λ (k : ℕ). the.Tree k (c .before .before .before .before .before .before .before .before .args .first + k) (c .before .before .before .before .before .before .before .before .args .c)) (b .count)))
 
 same-length-2 : tie.Need-same-length-2
 same-length-2 c = search needs
@@ -48,10 +50,11 @@ put-row-spec =
     tie.close
     (tie.spec
     cast-t17
+    cast-t18
     build-requires
     enum-known-b
-    add-t21
-    cast-t22
+    add-t22
+    cast-t23
     enum-known-b-2
     same-length
     returns

@@ -16,7 +16,7 @@ use Rattle.reader.specs.Contracts.{behind-sign}
 use Rattle.reader.specs.Meets.{of-node}
 use Rattle.reader.proofs.Answers.{taken, TakenOf, by-eq, refuses, need-met, need-failed, sooner, Starts, starts-at, goes, pass-on}
 use Rattle.reader.proofs.Bodies.{sign-then}
-use Rattle.reader.proofs.Moves.{fits-same, front-le, on-step, ready-same, ready-step, small}
+use Rattle.reader.proofs.Moves.{fits-same, front-le, on-step, ready-same, ready-step, small, small-in}
 use borrow.Author.Needs.{needs}
 use Rattle.reader.proofs.simple.assert_statement.Statement.{statement}
 use Rattle.reader.proofs.simple.assert_statement.Tie as tie
@@ -94,7 +94,7 @@ returns-3 : tie.Need-returns-3
 returns-3 c = pass-on (second (by (c .before .before .before .before .before .before .before .before .before .before .before .before .before .before .before .before .before .before .args .mode)) (c .before .before .before .before .before .before .before .before .before .before .before .before .before .before .before .before .before .before .args .tokens .now) (expression (by (c .before .before .before .before .before .before .before .before .before .before .before .before .before .before .before .before .before .before .args .mode)) (c .before .before .before .before .before .before .before .before .before .before .before .before .before .before .before .before .before .before .args .tokens .now) (c .before .before .before .before .before .before .before .before .before .before .before .before .before .before .before .before .before .before .args .less)) (spec.statement (by (c .before .before .before .before .before .before .before .before .before .before .before .before .before .before .before .before .before .before .args .mode)) (c .before .before .before .before .before .before .before .before .before .before .before .before .before .before .before .before .before .before .args .tokens .now) (c .before .before .before .before .before .before .before .before .before .before .before .before .before .before .before .before .before .before .args .less)) _ _ (c .before .before .before .before .before .before .before .before .before .before .before .before .before .before .before .iterate .ensures) (read-1 (c .before .before .before .before .before .before .before .before .before) .eq) (sym (c .before .before .before .before .before .before .before .next-symbol-is .ensures) ∙ c .before .before .before .before .before .before .if1 .left)) (c .before .before .before .before .behind-sign .ensures .1 _ _ _ _ (read-1 (c .before .before .before .before .before .before .before .before .before) .stands)) (c .enum-told2 .given .1)
 
 put-row-requires : tie.Need-put-row-requires
-put-row-requires c κs = (fits-same _ _ _ (c .before .before .before .before .before .before .before .before .before .before .before .before .before .before .before .before .before .before .before .before .pre .fits) (c .before .before .before .before .before .before .behind-sign .kept .1 .0 ∙ c .before .before .before .before .before .before .before .before .before .before .before .before .before .before .before .expression .kept .1 .0), small (c .before .before .before .before .before .before .before .before .before .before .before .before .before .before .before .before .before .before .before .before .pre))
+put-row-requires c κs = (fits-same _ _ _ (c .before .before .before .before .before .before .before .before .before .before .before .before .before .before .before .before .before .before .before .before .pre .fits) (c .before .before .before .before .before .before .behind-sign .kept .1 .0 ∙ c .before .before .before .before .before .before .before .before .before .before .before .before .before .before .before .expression .kept .1 .0), small (c .before .before .before .before .before .before .before .before .before .before .before .before .before .before .before .before .before .before .before .before .pre), small-in (c .before .before .before .before .before .before .before .before .before .before .before .before .before .before .before .before .before .before .before .before .pre) (read-2 (c .before .before) .stands .within))
 
 same-length-4 : tie.Need-same-length-4
 same-length-4 c = c .before .before .put-row .kept .0 ∙ c .before .before .before .before .before .before .before .before .before .behind-sign .kept .1 .0 ∙ c .before .before .before .before .before .before .before .before .before .before .before .before .before .before .before .before .before .before .expression .kept .1 .0

@@ -5,7 +5,7 @@ use Rattle.grammar.specs.Statements.{return}
 use Rattle.reader.specs.Contracts.{around}
 use Rattle.reader.specs.Meets.{of-node}
 use Rattle.reader.proofs.Answers.{at-once, by-eq, choose-true, choose-false, sooner}
-use Rattle.reader.proofs.Moves.{on-step, within-step, stands-step, ready-step, small}
+use Rattle.reader.proofs.Moves.{on-step, within-step, stands-step, ready-step, small, small-in}
 use borrow.Author.Needs.{needs}
 use Rattle.reader.proofs.simple.return_statement.Statement.{statement}
 use Rattle.reader.proofs.simple.return_statement.Tie as tie
@@ -17,7 +17,7 @@ next-symbol-is-requires : tie.Need-next-symbol-is-requires
 next-symbol-is-requires c κs = search needs
 
 put-row-requires : tie.Need-put-row-requires
-put-row-requires c κs = (c .before .before .before .before .before .before .pre .fits, small (c .before .before .before .before .before .before .pre))
+put-row-requires c κs = (c .before .before .before .before .before .before .pre .fits, small (c .before .before .before .before .before .before .pre), small-in (c .before .before .before .before .before .before .pre) (within-step _ _ (c .before .before .before .iterate .ensures) (c .before .before .before .before .before .before .pre .within)))
 
 same-length : tie.Need-same-length
 same-length c = c .before .before .put-row .kept .0

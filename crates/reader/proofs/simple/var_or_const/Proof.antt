@@ -6,7 +6,7 @@ use borrow.Author.Tests.{eq-eqb, ne-eqb, not-true, not-false}
 use Rattle.reader.specs.Contracts.{var-or-const}
 use Rattle.reader.specs.Meets.{of-node}
 use Rattle.reader.proofs.Answers.{at-once, by-eq, refuses, need-met, need-failed, choose-true, choose-false}
-use Rattle.reader.proofs.Moves.{within-step, stands-step, small}
+use Rattle.reader.proofs.Moves.{within-step, stands-step, small, small-in}
 use borrow.Author.Needs.{needs}
 use Rattle.reader.proofs.simple.var_or_const.Statement.{statement}
 use Rattle.reader.proofs.simple.var_or_const.Tie as tie
@@ -29,7 +29,7 @@ unfolding var-or-const
 returns-2 c = rw (c .before .iterate .ensures) (refuses _ _ _ (need-met _ _ _ (sym (c .before .before .before .before .before .is-identifier .ensures) ∙ not-false _ (c .before .before .before .before .if1 .left)) ∙ choose-true _ _ (sym (c .before .before .before .next-symbol-is .ensures) ∙ c .before .before .if2 .taken) ∙ need-failed _ _ _ (ap not (eq-eqb _ _ (c .if3 .taken)))))
 
 put-row-requires : tie.Need-put-row-requires
-put-row-requires c κs = (c .before .before .before .before .before .before .before .before .before .pre .fits, small (c .before .before .before .before .before .before .before .before .before .pre))
+put-row-requires c κs = (c .before .before .before .before .before .before .before .before .before .pre .fits, small (c .before .before .before .before .before .before .before .before .before .pre), small-in (c .before .before .before .before .before .before .before .before .before .pre) (within-step _ _ (c .before .before .iterate .ensures) (c .before .before .before .before .before .before .before .before .before .pre .within)))
 
 same-length : tie.Need-same-length
 same-length c = c .before .before .put-row .kept .0

@@ -4,7 +4,7 @@ use mathlib.Core.List.{[]}
 use Prim.Native.Nat.{ℕ}
 use lib.Dec.{lit<}
 use Rattle.reader.specs.Contracts.{around}
-use Rattle.reader.proofs.Moves.{falls, fits-same, le-refl}
+use Rattle.reader.proofs.Moves.{falls, fits-same, le-refl, small-in}
 use Rattle.reader.specs.Meets.{of-node}
 use Rattle.reader.proofs.Answers.{taken, TakenOf, pass, by-eq, then-read}
 use Rattle.reader.proofs.expressions.around.Reads as around-reads
@@ -37,7 +37,7 @@ module _ (t : ℕ) where
   returns c = pass _ (c .before .before .before .before .expression .ensures) (c .enum-told .given .1)
 
   pub put-row-requires : lts.Need-put-row-requires cs (around-at t) around-reads.Post
-  put-row-requires c κs = (fits-same _ _ _ (c .before .before .before .before .before .before .before .before .before .before .pre .1 .0 .fits) (c .before .before .before .before .before .before .expression .kept .1 .0), c .before .before .before .before .before .before .before .before .before .before .pre .1 .1)
+  put-row-requires c κs = (fits-same _ _ _ (c .before .before .before .before .before .before .before .before .before .before .pre .1 .0 .fits) (c .before .before .before .before .before .before .expression .kept .1 .0), c .before .before .before .before .before .before .before .before .before .before .pre .1 .1, small-in (c .before .before .before .before .before .before .before .before .before .before .pre .1 .0) (read-1 (c .before .before) .stands .within))
 
   pub same-length-2 : lts.Need-same-length-2 cs (around-at t) around-reads.Post
   same-length-2 c = c .before .before .put-row .kept .0 ∙ c .before .before .before .before .before .before .before .before .before .expression .kept .1 .0

@@ -16,7 +16,7 @@ use Rattle.reader.specs.Contracts.{items, closed-list}
 use Rattle.reader.specs.Meets.{of-node}
 use Rattle.reader.proofs.Answers.{taken, by-eq, choose-true, choose-false, bounds, bounded-told, later, Starts, goes, pass-on}
 use Rattle.reader.proofs.Bodies.{closed-then}
-use Rattle.reader.proofs.Moves.{falls, fits-same, le-refl, on-step, small, stands-step, within-step}
+use Rattle.reader.proofs.Moves.{falls, fits-same, le-refl, on-step, small, small-in, stands-step, within-step}
 use borrow.Author.Needs.{needs}
 use Rattle.reader.proofs.expressions.actual.Reads as actual-reads
 use Rattle.reader.proofs.expressions.call.Reads as call-reads
@@ -51,7 +51,7 @@ module _ (t : ℕ) where
   iterate-requires c κs = search needs
 
   pub put-row-requires : lts.Need-put-row-requires cs (call-at t) call-reads.Post
-  put-row-requires c κs = (c .before .before .before .before .before .before .pre .1 .0 .fits, small (c .before .before .before .before .before .before .pre .1 .0))
+  put-row-requires c κs = (c .before .before .before .before .before .before .pre .1 .0 .fits, small (c .before .before .before .before .before .before .pre .1 .0), small-in (c .before .before .before .before .before .before .pre .1 .0) (within-step _ _ (c .before .iterate .ensures) (c .before .before .before .before .before .before .pre .1 .0 .within)))
 
   pub same-length : lts.Need-same-length cs (call-at t) call-reads.Post
   same-length c = c .before .before .put-row .kept .0
@@ -59,11 +59,10 @@ module _ (t : ℕ) where
   pub returns : lts.Need-returns cs (call-at t) call-reads.Post
   unfolding call
   returns c =
-      let w = within-step _ _ (c .before .before .before .before .iterate .ensures) (c .before .before .before .before .before .before .before .before .before .pre .1 .0 .within) in (
-        later refl (on-step _ _ (c .before .before .before .before .iterate .ensures)) (c .before .before .put-row .ensures (c .before .before .before .before .before .before .before .before .before .args .tokens .now) w .0),
-        λ from t zs left s e. by-eq (choose-true _ _ (sym (c .before .before .before .before .before .before .next-symbol-is .ensures) ∙ c .before .before .before .before .before .if1 .taken)) (rw (← (c .before .before .before .before .iterate .ensures))
-            (c .before .before .put-row .ensures (c .before .before .before .before .before .before .before .before .before .args .tokens .now) w .1 _ [] _ _ _ _ (stands-step _ _ (c .before .before .before .before .iterate .ensures) s) (record { few = tt; root = of-node; refs = (e, refl, refl, refl) }))),
-      )
+      let w = within-step _ _ (c .before .before .before .before .iterate .ensures) (c .before .before .before .before .before .before .before .before .before .pre .1 .0 .within) in
+      (later refl (on-step _ _ (c .before .before .before .before .iterate .ensures)) (c .before .before .put-row .ensures (c .before .before .before .before .before .before .before .before .before .args .tokens .now) w .0),
+      λ from t zs left s e. by-eq (choose-true _ _ (sym (c .before .before .before .before .before .before .next-symbol-is .ensures) ∙ c .before .before .before .before .before .if1 .taken)) (rw (← (c .before .before .before .before .iterate .ensures))
+      (c .before .before .put-row .ensures (c .before .before .before .before .before .before .before .before .before .args .tokens .now) w .1 _ [] _ _ _ _ (stands-step _ _ (c .before .before .before .before .iterate .ensures) s) (record { few = tt; root = of-node; refs = (e, refl, refl, refl) }))))
 
   pub actual-requires : lts.Need-actual-requires cs (call-at t) call-reads.Post
   actual-requires c κs = (falls _ _ _ _ _ _ _ (c .before .before .before .before .before .pre .0) (le-refl _) (lit< tt), c .before .before .before .before .before .pre .1)
@@ -81,16 +80,15 @@ module _ (t : ℕ) where
   returns-2 c = (bounded-told (c .enum-told .given .1), λ from t zs left s e. pass-on (first (c .before .before .before .before .before .before .before .before .before .before .args .mode) (c .before .before .before .before .before .before .before .before .before .before .args .tokens .now) (expression (by (c .before .before .before .before .before .before .before .before .before .before .args .mode)) (c .before .before .before .before .before .before .before .before .before .before .args .tokens .now) (c .before .before .before .before .before .before .before .before .before .before .args .less)) t _ _ (sym (c .before .before .before .before .before .before .before .next-symbol-is .ensures) ∙ c .before .before .before .before .before .before .if1 .left)) (c .before .before .before .before .actual .ensures .1 _ _ _ _ s) (c .enum-told .given .1))
 
   pub put-row-requires-2 : lts.Need-put-row-requires-2 cs (call-at t) call-reads.Post
-  put-row-requires-2 c κs = (fits-same _ _ _ (c .before .before .before .before .before .before .before .before .before .before .before .before .pre .1 .0 .fits) (c .before .before .before .before .before .before .actual .kept .1 .0), small (c .before .before .before .before .before .before .before .before .before .before .before .before .pre .1 .0))
+  put-row-requires-2 c κs = let b = bounds (c .before .before .before .before .before .before .actual .ensures .0) (c .before .before .r .given .1) in (fits-same _ _ _ (c .before .before .before .before .before .before .before .before .before .before .before .before .pre .1 .0 .fits) (c .before .before .before .before .before .before .actual .kept .1 .0), small (c .before .before .before .before .before .before .before .before .before .before .before .before .pre .1 .0), small-in (c .before .before .before .before .before .before .before .before .before .before .before .before .pre .1 .0) (b .within))
 
   pub same-length-3 : lts.Need-same-length-3 cs (call-at t) call-reads.Post
   same-length-3 c = c .before .before .put-row2 .kept .0 ∙ c .before .before .before .before .before .before .before .before .before .actual .kept .1 .0
 
   pub returns-3 : lts.Need-returns-3 cs (call-at t) call-reads.Post
   returns-3 c =
-      let b = bounds (c .before .before .before .before .before .before .before .before .before .actual .ensures .0) (c .before .before .before .before .before .r .given .1) in (
-        later (c .before .before .before .before .before .before .before .before .before .actual .kept .1 .0) (b .on) (c .before .before .put-row2 .ensures (c .before .before .before .before .before .before .before .before .before .before .before .before .before .before .before .args .tokens .now) (b .within) .0),
-        λ from t zs left s e. let q = taken (c .before .before .before .before .before .before .before .before .before .actual .ensures .1 _ _ _ _ s) (c .before .before .before .before .before .r .given .1) in
-            by-eq (ended (c .before .before .before .before .before .before .before .before .before .before .before .before .before .before .before .args .mode) (c .before .before .before .before .before .before .before .before .before .before .before .before .before .before .before .args .tokens .now) (expression (by (c .before .before .before .before .before .before .before .before .before .before .before .before .before .before .before .args .mode)) (c .before .before .before .before .before .before .before .before .before .before .before .before .before .before .before .args .tokens .now) (c .before .before .before .before .before .before .before .before .before .before .before .before .before .before .before .args .less)) t _ _ (sym (c .before .before .before .before .before .before .before .before .before .before .before .before .next-symbol-is .ensures) ∙ c .before .before .before .before .before .before .before .before .before .before .before .if1 .left) (q .eq))
-            (c .before .before .put-row2 .ensures (c .before .before .before .before .before .before .before .before .before .before .before .before .before .before .before .args .tokens .now) (q .stands .within) .1 _ [] _ _ _ _ (q .stands) (record { few = tt; root = of-node; refs = (e, q .head, refl, refl) })),
-      )
+      let b = bounds (c .before .before .before .before .before .before .before .before .before .actual .ensures .0) (c .before .before .before .before .before .r .given .1) in
+      (later (c .before .before .before .before .before .before .before .before .before .actual .kept .1 .0) (b .on) (c .before .before .put-row2 .ensures (c .before .before .before .before .before .before .before .before .before .before .before .before .before .before .before .args .tokens .now) (b .within) .0),
+      λ from t zs left s e. let q = taken (c .before .before .before .before .before .before .before .before .before .actual .ensures .1 _ _ _ _ s) (c .before .before .before .before .before .r .given .1) in
+      by-eq (ended (c .before .before .before .before .before .before .before .before .before .before .before .before .before .before .before .args .mode) (c .before .before .before .before .before .before .before .before .before .before .before .before .before .before .before .args .tokens .now) (expression (by (c .before .before .before .before .before .before .before .before .before .before .before .before .before .before .before .args .mode)) (c .before .before .before .before .before .before .before .before .before .before .before .before .before .before .before .args .tokens .now) (c .before .before .before .before .before .before .before .before .before .before .before .before .before .before .before .args .less)) t _ _ (sym (c .before .before .before .before .before .before .before .before .before .before .before .before .next-symbol-is .ensures) ∙ c .before .before .before .before .before .before .before .before .before .before .before .if1 .left) (q .eq))
+      (c .before .before .put-row2 .ensures (c .before .before .before .before .before .before .before .before .before .before .before .before .before .before .before .args .tokens .now) (q .stands .within) .1 _ [] _ _ _ _ (q .stands) (record { few = tt; root = of-node; refs = (e, q .head, refl, refl) })))

@@ -17,7 +17,7 @@ use Rattle.reader.specs.Meets.{of-node}
 use Rattle.reader.proofs.Answers.{at-once, taken, TakenOf, by-eq, choose-true, choose-false, Starts, goes, pass-on}
 use Rattle.reader.proofs.Bodies.{closed-then}
 use Rattle.reader.proofs.Lists.{then-assoc}
-use Rattle.reader.proofs.Moves.{falls, fits-same, le-refl, small, stands-step, within-step}
+use Rattle.reader.proofs.Moves.{falls, fits-same, le-refl, small, small-in, stands-step, within-step}
 use borrow.Author.Needs.{needs}
 use Rattle.reader.proofs.expressions.enclosed.Reads as enclosed-reads
 use Rattle.reader.proofs.expressions.hash.Reads as hash-reads
@@ -55,7 +55,7 @@ module _ (t : ℕ) where
   next-symbol-is-requires c κs = search needs
 
   pub put-row-requires : lts.Need-put-row-requires cs (hash-at t) hash-reads.Post
-  put-row-requires c κs = (c .before .before .before .before .before .before .pre .1 .fits, small (c .before .before .before .before .before .before .pre .1))
+  put-row-requires c κs = (c .before .before .before .before .before .before .pre .1 .fits, small (c .before .before .before .before .before .before .pre .1), small-in (c .before .before .before .before .before .before .pre .1) (within-step _ _ (c .before .before .before .iterate .ensures) (c .before .before .before .before .before .before .pre .1 .within)))
 
   pub same-length : lts.Need-same-length cs (hash-at t) hash-reads.Post
   same-length c = c .before .before .put-row .kept .0
@@ -83,7 +83,7 @@ module _ (t : ℕ) where
   returns-2 c = pass-on (first (by (c .before .before .before .before .before .before .before .before .before .before .before .args .mode)) (c .before .before .before .before .before .before .before .before .before .before .before .args .tokens .now) (expression (by (c .before .before .before .before .before .before .before .before .before .before .before .args .mode)) (c .before .before .before .before .before .before .before .before .before .before .before .args .tokens .now) (c .before .before .before .before .before .before .before .before .before .before .before .args .less)) _ _ (sym (c .before .before .before .before .before .before .before .next-symbol-is .ensures) ∙ c .before .before .before .before .before .before .if1 .left)) (c .before .before .before .before .enclosed .ensures) (c .enum-told .given .1)
 
   pub put-row-requires-2 : lts.Need-put-row-requires-2 cs (hash-at t) hash-reads.Post
-  put-row-requires-2 c κs = (fits-same _ _ _ (c .before .before .before .before .before .before .before .before .before .before .before .before .before .pre .1 .fits) (c .before .before .before .before .before .before .enclosed .kept .1 .0), small (c .before .before .before .before .before .before .before .before .before .before .before .before .before .pre .1))
+  put-row-requires-2 c κs = (fits-same _ _ _ (c .before .before .before .before .before .before .before .before .before .before .before .before .before .pre .1 .fits) (c .before .before .before .before .before .before .enclosed .kept .1 .0), small (c .before .before .before .before .before .before .before .before .before .before .before .before .before .pre .1), small-in (c .before .before .before .before .before .before .before .before .before .before .before .before .before .pre .1) (read-1 (c .before .before) .stands .within))
 
   pub same-length-3 : lts.Need-same-length-3 cs (hash-at t) hash-reads.Post
   same-length-3 c = c .before .before .put-row2 .kept .0 ∙ c .before .before .before .before .before .before .before .before .before .enclosed .kept .1 .0

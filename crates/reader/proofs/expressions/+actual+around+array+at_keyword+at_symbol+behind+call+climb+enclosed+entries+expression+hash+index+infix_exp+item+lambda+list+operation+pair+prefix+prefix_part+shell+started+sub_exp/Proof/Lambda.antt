@@ -16,7 +16,7 @@ use Rattle.reader.specs.Contracts.{item, items, closed-list}
 use Rattle.reader.specs.Meets.{of-node}
 use Rattle.reader.proofs.Answers.{taken, TakenOf, by-eq, refuses, need-met, need-failed, Starts, starts-at, starts-after, goes, pass-on}
 use Rattle.reader.proofs.Bodies.{closed-then}
-use Rattle.reader.proofs.Moves.{falls, fits-same, front-le, le-refl, le-trans, on-step, ready-same, ready-step, small, stands-step}
+use Rattle.reader.proofs.Moves.{falls, fits-same, front-le, le-refl, le-trans, on-step, ready-same, ready-step, small, small-in, stands-step}
 use borrow.Author.Needs.{needs}
 use Rattle.reader.proofs.expressions.behind.Reads as behind-reads
 use Rattle.reader.proofs.expressions.enclosed.Reads as enclosed-reads
@@ -88,10 +88,9 @@ module _ (t : ℕ) where
   iterate-requires c κs = search needs
 
   pub behind-requires : lts.Need-behind-requires cs (lambda-at t) lambda-reads.Post
-  behind-requires c κs = (
-    falls _ _ _ _ _ _ _ (c .before .before .before .before .before .before .before .before .before .before .before .before .before .before .before .pre .0) (le-trans (read-1 (c .before .before .before) .stands .on) (on-step _ _ (c .before .iterate .ensures))) (lit< tt),
-    (ready-step _ _ (c .before .iterate .ensures) (ready-same (c .before .before .before .before .before .before .before .before .before .before .before .before .before .before .before .pre .1) (c .before .before .before .before .before .before .before .enclosed .kept .1 .0) (read-1 (c .before .before .before) .stands .within)), front-le (read-1 (c .before .before .before) .stands .front)),
-  )
+  behind-requires c κs =
+      (falls _ _ _ _ _ _ _ (c .before .before .before .before .before .before .before .before .before .before .before .before .before .before .before .pre .0) (le-trans (read-1 (c .before .before .before) .stands .on) (on-step _ _ (c .before .iterate .ensures))) (lit< tt),
+      (ready-step _ _ (c .before .iterate .ensures) (ready-same (c .before .before .before .before .before .before .before .before .before .before .before .before .before .before .before .pre .1) (c .before .before .before .before .before .before .before .enclosed .kept .1 .0) (read-1 (c .before .before .before) .stands .within)), front-le (read-1 (c .before .before .before) .stands .front)))
 
   pub enum-known-q : lts.Need-enum-known-q cs (lambda-at t) lambda-reads.Post
   enum-known-q c = c .match2 .keys1
@@ -107,7 +106,7 @@ module _ (t : ℕ) where
   returns-4 c = pass-on (second (by (c .before .before .before .before .before .before .before .before .before .before .before .before .before .before .before .before .before .before .before .before .args .mode)) (c .before .before .before .before .before .before .before .before .before .before .before .before .before .before .before .before .before .before .before .before .args .tokens .now) (expression (by (c .before .before .before .before .before .before .before .before .before .before .before .before .before .before .before .before .before .before .before .before .args .mode)) (c .before .before .before .before .before .before .before .before .before .before .before .before .before .before .before .before .before .before .before .before .args .tokens .now) (c .before .before .before .before .before .before .before .before .before .before .before .before .before .before .before .before .before .before .before .before .args .less)) _ _ (sym (c .before .before .before .before .before .before .before .before .before .before .before .before .before .before .before .before .before .next-symbol-is .ensures) ∙ c .before .before .before .before .before .before .before .before .before .before .before .before .before .before .before .before .if1 .left) (sym (c .before .before .before .before .before .before .before .before .before .before .before .before .before .before .before .next-symbol-is2 .ensures) ∙ c .before .before .before .before .before .before .before .before .before .before .before .before .before .before .if2 .left) (read-1 (c .before .before .before .before .before .before .before .before) .eq) (c .before .before .before .before .before .before .iterate .ensures)) (c .before .before .before .before .behind .ensures .1 _ _ _ _ (stands-step _ _ (c .before .before .before .before .before .before .iterate .ensures) (read-1 (c .before .before .before .before .before .before .before .before) .stands))) (c .enum-told2 .given .1)
 
   pub put-row-requires : lts.Need-put-row-requires cs (lambda-at t) lambda-reads.Post
-  put-row-requires c κs = (fits-same _ _ _ (c .before .before .before .before .before .before .before .before .before .before .before .before .before .before .before .before .before .before .before .before .before .before .pre .1 .fits) (c .before .before .before .before .before .before .behind .kept .1 .0 ∙ c .before .before .before .before .before .before .before .before .before .before .before .before .before .before .enclosed .kept .1 .0), small (c .before .before .before .before .before .before .before .before .before .before .before .before .before .before .before .before .before .before .before .before .before .before .pre .1))
+  put-row-requires c κs = (fits-same _ _ _ (c .before .before .before .before .before .before .before .before .before .before .before .before .before .before .before .before .before .before .before .before .before .before .pre .1 .fits) (c .before .before .before .before .before .before .behind .kept .1 .0 ∙ c .before .before .before .before .before .before .before .before .before .before .before .before .before .before .enclosed .kept .1 .0), small (c .before .before .before .before .before .before .before .before .before .before .before .before .before .before .before .before .before .before .before .before .before .before .pre .1), small-in (c .before .before .before .before .before .before .before .before .before .before .before .before .before .before .before .before .before .before .before .before .before .before .pre .1) (read-2 (c .before .before) .stands .within))
 
   pub same-length-3 : lts.Need-same-length-3 cs (lambda-at t) lambda-reads.Post
   same-length-3 c = c .before .before .put-row .kept .0 ∙ c .before .before .before .before .before .before .before .before .before .behind .kept .1 .0 ∙ c .before .before .before .before .before .before .before .before .before .before .before .before .before .before .before .before .before .enclosed .kept .1 .0

@@ -16,7 +16,7 @@ use Rattle.modes.specs.Modes.{by}
 use Rattle.reader.specs.Contracts.{item}
 use Rattle.reader.specs.Meets.{of-node}
 use Rattle.reader.proofs.Answers.{taken, TakenOf, by-eq, refuses, need-met, need-failed, Starts, starts-at, starts-after, goes, pass-on}
-use Rattle.reader.proofs.Moves.{falls, fits-same, front-le, le-refl, moves-next, on-step, ready-same, ready-step, stands-step, within-step}
+use Rattle.reader.proofs.Moves.{falls, fits-same, front-le, le-refl, moves-next, on-step, ready-same, ready-step, small-in, stands-step, within-step}
 use borrow.Author.Needs.{needs}
 use Rattle.reader.proofs.expressions.behind.Reads as behind-reads
 use Rattle.reader.proofs.expressions.expression.Reads as expression-reads
@@ -88,10 +88,9 @@ module _ (t : ℕ) where
   iterate-requires-2 c κs = search needs
 
   pub behind-requires : lts.Need-behind-requires cs (pair-at t) pair-reads.Post
-  behind-requires c κs = (
-    omega (arith, c .before .before .before .before .before .before .before .before .before .before .before .before .before .before .pre .0, read-1 (c .before .before .before .before .before .before) .stands .on, read-1 (c .before .before .before .before .before .before) .stands .within, moves-next SColon (c .before .before .before .before .before .before .before .before .before .before .before .before .before .before .pre .1 .sound) (read-1 (c .before .before .before .before .before .before) .stands .within) (sym (c .before .before .before .next-symbol-is .ensures) ∙ not-false _ (c .before .before .if1 .left)) refl, c .before .before .before .before .iterate .ensures, on-step _ _ (c .before .iterate2 .ensures)),
-    (ready-step _ _ (c .before .iterate2 .ensures) (ready-step _ _ (c .before .before .before .before .iterate .ensures) (ready-same (c .before .before .before .before .before .before .before .before .before .before .before .before .before .before .pre .1) (c .before .before .before .before .before .before .before .before .before .before .expression .kept .1 .0) (read-1 (c .before .before .before .before .before .before) .stands .within))), front-le (read-1 (c .before .before .before .before .before .before) .stands .front)),
-  )
+  behind-requires c κs =
+      (omega (arith, c .before .before .before .before .before .before .before .before .before .before .before .before .before .before .pre .0, read-1 (c .before .before .before .before .before .before) .stands .on, read-1 (c .before .before .before .before .before .before) .stands .within, moves-next SColon (c .before .before .before .before .before .before .before .before .before .before .before .before .before .before .pre .1 .sound) (read-1 (c .before .before .before .before .before .before) .stands .within) (sym (c .before .before .before .next-symbol-is .ensures) ∙ not-false _ (c .before .before .if1 .left)) refl, c .before .before .before .before .iterate .ensures, on-step _ _ (c .before .iterate2 .ensures)),
+      (ready-step _ _ (c .before .iterate2 .ensures) (ready-step _ _ (c .before .before .before .before .iterate .ensures) (ready-same (c .before .before .before .before .before .before .before .before .before .before .before .before .before .before .pre .1) (c .before .before .before .before .before .before .before .before .before .before .expression .kept .1 .0) (read-1 (c .before .before .before .before .before .before) .stands .within))), front-le (read-1 (c .before .before .before .before .before .before) .stands .front)))
 
   pub enum-known-q : lts.Need-enum-known-q cs (pair-at t) pair-reads.Post
   enum-known-q c = c .match2 .keys1
@@ -108,7 +107,8 @@ module _ (t : ℕ) where
 
   pub put-row-requires : lts.Need-put-row-requires cs (pair-at t) pair-reads.Post
   put-row-requires c κs =
-      (fits-same _ _ _ (c .before .before .before .before .before .before .before .before .before .before .before .before .before .before .before .before .before .before .before .before .before .pre .1 .fits) (c .before .before .before .before .before .before .behind .kept .1 .0 ∙ c .before .before .before .before .before .before .before .before .before .before .before .before .before .before .before .before .before .expression .kept .1 .0), omega (arith, within-step _ _ (c .before .before .before .before .before .before .before .before .before .before .before .iterate .ensures) (read-1 (c .before .before .before .before .before .before .before .before .before .before .before .before .before) .stands .within), c .before .before .before .before .before .before .before .before .before .before .before .before .before .before .before .before .before .before .before .before .before .pre .1 .sound .few))
+      (fits-same _ _ _ (c .before .before .before .before .before .before .before .before .before .before .before .before .before .before .before .before .before .before .before .before .before .pre .1 .fits) (c .before .before .before .before .before .before .behind .kept .1 .0 ∙ c .before .before .before .before .before .before .before .before .before .before .before .before .before .before .before .before .before .expression .kept .1 .0),
+      small-in (c .before .before .before .before .before .before .before .before .before .before .before .before .before .before .before .before .before .before .before .before .before .pre .1) (within-step _ _ (c .before .before .before .before .before .before .before .before .before .before .before .iterate .ensures) (read-1 (c .before .before .before .before .before .before .before .before .before .before .before .before .before) .stands .within)), small-in (c .before .before .before .before .before .before .before .before .before .before .before .before .before .before .before .before .before .before .before .before .before .pre .1) (read-2 (c .before .before) .stands .within))
 
   pub same-length-4 : lts.Need-same-length-4 cs (pair-at t) pair-reads.Post
   same-length-4 c = c .before .before .put-row .kept .0 ∙ c .before .before .before .before .before .before .before .before .before .behind .kept .1 .0 ∙ c .before .before .before .before .before .before .before .before .before .before .before .before .before .before .before .before .before .before .before .before .expression .kept .1 .0

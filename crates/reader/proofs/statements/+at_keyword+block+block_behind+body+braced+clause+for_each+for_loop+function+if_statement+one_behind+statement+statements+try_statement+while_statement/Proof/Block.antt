@@ -4,7 +4,6 @@ use mathlib.Core.Path.{_≡_, refl, sym, ap, _∙_}
 use mathlib.Core.Bool.{false}
 use mathlib.Core.List.{List, []}
 use Prim.Native.Nat.{ℕ}
-use native.Mathlib.Omega.{arith}
 use Rattle.grammar.specs.Words.{SRBrace, step, next-is}
 use Rattle.grammar.specs.Tree.{Trees}
 use Rattle.grammar.specs.Tree as tree
@@ -15,7 +14,7 @@ use Rattle.grammar.specs.Rules.{Rules}
 use Rattle.modes.specs.Modes.{by}
 use Rattle.reader.specs.Meets.{of-node}
 use Rattle.reader.proofs.Answers.{taken, TakenOf, by-eq, choose-true, choose-false, at-once, sooner, Starts, starts-at, starts-after, goes, pass-on}
-use Rattle.reader.proofs.Moves.{falls, fits-same, front-le, le-trans, on-step, ready-same, ready-step, stands-step, within-step}
+use Rattle.reader.proofs.Moves.{falls, fits-same, front-le, le-trans, on-step, ready-same, ready-step, small-in, stands-step, within-step}
 use borrow.Author.Needs.{needs}
 use Rattle.reader.proofs.statements.block.Reads as block-reads
 use Rattle.words.proofs.iterate.Reads as iterate-reads
@@ -61,7 +60,7 @@ module _ (t : ℕ) where
   next-symbol-is-requires c κs = search needs
 
   pub put-row-requires : lts.Need-put-row-requires cs (block-at t) block-reads.Post
-  put-row-requires c κs = (c .before .before .before .before .before .before .before .pre .1 .fits, omega (arith, within-step _ _ (c .before .before .before .before .iterate .ensures) (c .before .before .before .before .before .before .before .pre .1 .within), c .before .before .before .before .before .before .before .pre .1 .sound .few))
+  put-row-requires c κs = (c .before .before .before .before .before .before .before .pre .1 .fits, small-in (c .before .before .before .before .before .before .before .pre .1) (within-step _ _ (c .before .before .before .before .iterate .ensures) (c .before .before .before .before .before .before .before .pre .1 .within)), small-in (c .before .before .before .before .before .before .before .pre .1) (within-step _ _ (c .before .before .before .iterate2 .ensures) (within-step _ _ (c .before .before .before .before .iterate .ensures) (c .before .before .before .before .before .before .before .pre .1 .within))))
 
   pub same-length : lts.Need-same-length cs (block-at t) block-reads.Post
   same-length c = c .before .before .put-row .kept .0
@@ -92,10 +91,9 @@ module _ (t : ℕ) where
   iterate-requires-3 c κs = search needs
 
   pub statements-requires : lts.Need-statements-requires cs (block-at t) block-reads.Post
-  statements-requires c κs = (
-    falls _ _ _ _ _ _ _ (c .before .before .before .before .before .before .before .before .before .before .before .before .before .before .before .pre .0) (le-trans (on-step _ _ (c .before .before .before .before .before .before .before .before .before .before .before .before .iterate .ensures)) (le-trans (on-step _ _ (c .before .before .before .before .before .before .before .before .before .before .before .iterate2 .ensures)) (le-trans (read-1 (c .before .before .before) .stands .on) (on-step _ _ (c .before .iterate3 .ensures))))) (lit< tt),
-    (ready-step _ _ (c .before .iterate3 .ensures) (ready-same (c .before .before .before .before .before .before .before .before .before .before .before .before .before .before .before .pre .1) (c .before .before .before .before .before .before .before .statement .kept .1 .0) (read-1 (c .before .before .before) .stands .within)), front-le (read-1 (c .before .before .before) .stands .front)),
-  )
+  statements-requires c κs =
+      (falls _ _ _ _ _ _ _ (c .before .before .before .before .before .before .before .before .before .before .before .before .before .before .before .pre .0) (le-trans (on-step _ _ (c .before .before .before .before .before .before .before .before .before .before .before .before .iterate .ensures)) (le-trans (on-step _ _ (c .before .before .before .before .before .before .before .before .before .before .before .iterate2 .ensures)) (le-trans (read-1 (c .before .before .before) .stands .on) (on-step _ _ (c .before .iterate3 .ensures))))) (lit< tt),
+      (ready-step _ _ (c .before .iterate3 .ensures) (ready-same (c .before .before .before .before .before .before .before .before .before .before .before .before .before .before .before .pre .1) (c .before .before .before .before .before .before .before .statement .kept .1 .0) (read-1 (c .before .before .before) .stands .within)), front-le (read-1 (c .before .before .before) .stands .front)))
 
   pub enum-known-q : lts.Need-enum-known-q cs (block-at t) block-reads.Post
   enum-known-q c = c .match2 .keys1
@@ -110,7 +108,7 @@ module _ (t : ℕ) where
   returns-3 c = pass-on (second (by (c .before .before .before .before .before .before .before .before .before .before .before .before .before .before .before .before .before .before .before .before .args .mode)) (c .before .before .before .before .before .before .before .before .before .before .before .before .before .before .before .before .before .before .before .before .args .tokens .now) (expression (by (c .before .before .before .before .before .before .before .before .before .before .before .before .before .before .before .before .before .before .before .before .args .mode)) (c .before .before .before .before .before .before .before .before .before .before .before .before .before .before .before .before .before .before .before .before .args .tokens .now) (c .before .before .before .before .before .before .before .before .before .before .before .before .before .before .before .before .before .before .before .before .args .less)) (statement (by (c .before .before .before .before .before .before .before .before .before .before .before .before .before .before .before .before .before .before .before .before .args .mode)) (c .before .before .before .before .before .before .before .before .before .before .before .before .before .before .before .before .before .before .before .before .args .tokens .now) (c .before .before .before .before .before .before .before .before .before .before .before .before .before .before .before .before .before .before .before .before .args .less)) _ _ (c .before .before .before .before .before .before .before .before .before .before .before .before .before .before .before .before .before .iterate .ensures) (sym (c .before .before .before .before .before .before .before .before .before .before .before .before .before .before .before .next-symbol-is .ensures) ∙ c .before .before .before .before .before .before .before .before .before .before .before .before .before .before .if1 .left) (c .before .before .before .before .before .before .before .before .before .before .before .before .before .before .before .before .iterate2 .ensures) (read-1 (c .before .before .before .before .before .before .before .before) .eq) (c .before .before .before .before .before .before .iterate3 .ensures)) (c .before .before .before .before .statements .ensures .1 _ _ _ _ (stands-step _ _ (c .before .before .before .before .before .before .iterate3 .ensures) (read-1 (c .before .before .before .before .before .before .before .before) .stands)) (read-1 (c .before .before .before .before .before .before .before .before) .head)) (c .enum-told2 .given .1)
 
   pub put-row-requires-2 : lts.Need-put-row-requires-2 cs (block-at t) block-reads.Post
-  put-row-requires-2 c κs = (fits-same _ _ _ (c .before .before .before .before .before .before .before .before .before .before .before .before .before .before .before .before .before .before .before .before .before .before .pre .1 .fits) (c .before .before .before .before .before .before .statements .kept .1 .0 ∙ c .before .before .before .before .before .before .before .before .before .before .before .before .before .before .statement .kept .1 .0), omega (arith, within-step _ _ (c .before .before .before .before .before .before .before .before .before .before .before .before .before .before .before .before .before .before .before .iterate .ensures) (c .before .before .before .before .before .before .before .before .before .before .before .before .before .before .before .before .before .before .before .before .before .before .pre .1 .within), c .before .before .before .before .before .before .before .before .before .before .before .before .before .before .before .before .before .before .before .before .before .before .pre .1 .sound .few))
+  put-row-requires-2 c κs = (fits-same _ _ _ (c .before .before .before .before .before .before .before .before .before .before .before .before .before .before .before .before .before .before .before .before .before .before .pre .1 .fits) (c .before .before .before .before .before .before .statements .kept .1 .0 ∙ c .before .before .before .before .before .before .before .before .before .before .before .before .before .before .statement .kept .1 .0), small-in (c .before .before .before .before .before .before .before .before .before .before .before .before .before .before .before .before .before .before .before .before .before .before .pre .1) (within-step _ _ (c .before .before .before .before .before .before .before .before .before .before .before .before .before .before .before .before .before .before .before .iterate .ensures) (c .before .before .before .before .before .before .before .before .before .before .before .before .before .before .before .before .before .before .before .before .before .before .pre .1 .within)), small-in (c .before .before .before .before .before .before .before .before .before .before .before .before .before .before .before .before .before .before .before .before .before .before .pre .1) (read-2 (c .before .before) .stands .within))
 
   pub same-length-4 : lts.Need-same-length-4 cs (block-at t) block-reads.Post
   same-length-4 c = c .before .before .put-row2 .kept .0 ∙ c .before .before .before .before .before .before .before .before .before .statements .kept .1 .0 ∙ c .before .before .before .before .before .before .before .before .before .before .before .before .before .before .before .before .before .statement .kept .1 .0
