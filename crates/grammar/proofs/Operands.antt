@@ -130,6 +130,10 @@ module _ (rules : Rules) (ts : List ℕ) (rec : Rec) (pre : ℕ) where
   unfolding climb choose
   stopped turn t at room h = rw h
 
+-- A step onto an operator goes on.
+onto-operator : (ts : List ℕ) (v : Valid ts) {c p mark : ℕ} → c < length ts → step ts c ≡ p → infix-of (tok ts p) ≡ suc mark → c < step ts c
+onto-operator ts v {c} h q i = goes-forward ts v c h (inr (λ z. omega (arith, others .eof, ap infix-of (ap (tok ts) (sym q) ∙ z))))
+
 record Placed (ts : List ℕ) (d s c : ℕ) : Type 0 where
   some : 1 ≤ d
   start : s < length ts
@@ -151,7 +155,7 @@ module _ (rules : Rules) (ts : List ℕ) (v : Valid ts) (d : ℕ) where
       → Good rules ts d lo′ r (step ts p) e → (c < e) × (e < length ts)
   left-of {c} {p} gl q i gr =
       let y = good-placed gr in
-      let lt : c < step ts c = goes-forward ts v c (good-placed gl .end) (inr (λ z. omega (arith, others .eof, ap infix-of (ap (tok ts) (sym q) ∙ z)))) in
+      let lt = onto-operator ts v (good-placed gl .end) q i in
       (omega (arith, y .on, step-on ts p), y .end)
 
   -- Where its infix rows end.
@@ -162,7 +166,7 @@ module _ (rules : Rules) (ts : List ℕ) (v : Valid ts) (d : ℕ) where
   ends-good : {lo s e : ℕ} {t : Tree} → Good rules ts d lo t s e → Ends e t
   ends-good {s} {e} {t} (g-one x) = ends-whole t (whole rules ts v d s (size t) t e 0 x) e
   ends-good (g-two {c} {p} l n q i a r) =
-      let lt : c < step ts c = goes-forward ts v c (good-placed l .end) (inr (λ z. omega (arith, others .eof, ap infix-of (ap (tok ts) (sym q) ∙ z)))) in
+      let lt = onto-operator ts v (good-placed l .end) q i in
       let before : c ≡ p - 1 = omega (arith, step-most ts c) in
       λ lt. (refl, rw before at (ends-good l), ends-good r)
 

@@ -81,7 +81,7 @@ unfolding dots get-identifier
 loop-again c =
     record {
       same = c .before .before .before .link .kept .0 ∙ c .before .before .before .before .before .before .before .before .before .before .put-row .kept .0 ∙ c .before .before .before .before .before .before .before .before .before .before .before .before .before .before .before .before .before .before .loop .inv .same;
-      state = rw (c .first-of .ensures, c .before .before .before .link .ensures) (lengthens (c .before .before .before .before .before .before .before .before .before .before .before .before .before .before .before .before .before .before .loop .inv .state) _ (read-1 (c .before .before .before .before .before .before) .stands) (read-1 (c .before .before .before .before .before .before) .head) (choose-true _ _ (sym (c .before .before .before .before .before .before .before .before .before .before .before .before .before .before .before .before .before .next-symbol-is .ensures) ∙ c .before .before .before .before .before .before .before .before .before .before .before .before .before .before .before .before .if1 .taken) ∙ then-eq _ (rw (← (c .before .before .before .before .before .before .before .before .before .before .before .before .before .before .iterate2 .ensures ∙ ap (step _) (c .before .before .before .before .before .before .before .before .before .before .before .before .before .before .before .iterate .ensures))) (need-met _ _ _ (sym (c .before .before .before .before .before .before .before .before .before .before .before .before .before .is-identifier .ensures) ∙ not-false _ (c .before .before .before .before .before .before .before .before .before .before .before .before .if2 .left)))) ∙ then-read _ (read-1 (c .before .before .before .before .before .before) .eq)) (omega (arith, bounds (c .before .before .before .before .before .before .before .before .before .before .put-row .ensures (c .before .before .before .before .before .before .before .before .before .before .before .before .before .before .before .before .before .before .before .before .before .args .tokens .now) (within-step _ _ (c .before .before .before .before .before .before .before .before .before .before .before .before .before .before .iterate2 .ensures) (within-step _ _ (c .before .before .before .before .before .before .before .before .before .before .before .before .before .before .before .iterate .ensures) (c .before .before .before .before .before .before .before .before .before .before .before .before .before .before .before .before .before .before .loop .inv .state .stands .within))) .0) (c .before .before .before .before .before .before .r .given .1) .on, moves-next SDot (c .before .before .before .before .before .before .before .before .before .before .before .before .before .before .before .before .before .before .before .before .before .pre .sound) (c .before .before .before .before .before .before .before .before .before .before .before .before .before .before .before .before .before .before .loop .inv .state .stands .within) (sym (c .before .before .before .before .before .before .before .before .before .before .before .before .before .before .before .before .before .next-symbol-is .ensures) ∙ c .before .before .before .before .before .before .before .before .before .before .before .before .before .before .before .before .if1 .taken) refl, c .before .before .before .before .before .before .before .before .before .before .before .before .before .before .before .iterate .ensures, on-step _ _ (c .before .before .before .before .before .before .before .before .before .before .before .before .before .before .iterate2 .ensures))) (omega arith) (read-1 (c .before .before .before .before .before .before) .stands .within))
+      state = rw (c .first-of .ensures, c .before .before .before .link .ensures) (lengthens (c .before .before .before .before .before .before .before .before .before .before .before .before .before .before .before .before .before .before .loop .inv .state) _ (read-1 (c .before .before .before .before .before .before) .stands) (read-1 (c .before .before .before .before .before .before) .head) (choose-true _ _ (sym (c .before .before .before .before .before .before .before .before .before .before .before .before .before .before .before .before .before .next-symbol-is .ensures) ∙ c .before .before .before .before .before .before .before .before .before .before .before .before .before .before .before .before .if1 .taken) ∙ then-eq _ (rw (← (c .before .before .before .before .before .before .before .before .before .before .before .before .before .before .iterate2 .ensures ∙ ap (step _) (c .before .before .before .before .before .before .before .before .before .before .before .before .before .before .before .iterate .ensures))) (need-met _ _ _ (sym (c .before .before .before .before .before .before .before .before .before .before .before .before .before .is-identifier .ensures) ∙ not-false _ (c .before .before .before .before .before .before .before .before .before .before .before .before .if2 .left)))) ∙ then-read _ (read-1 (c .before .before .before .before .before .before) .eq)) (omega (arith, bounds (c .before .before .before .before .before .before .before .before .before .before .put-row .ensures (c .before .before .before .before .before .before .before .before .before .before .before .before .before .before .before .before .before .before .before .before .before .args .tokens .now) (within-step _ _ (c .before .before .before .before .before .before .before .before .before .before .before .before .before .before .iterate2 .ensures) (within-step _ _ (c .before .before .before .before .before .before .before .before .before .before .before .before .before .before .before .iterate .ensures) (c .before .before .before .before .before .before .before .before .before .before .before .before .before .before .before .before .before .before .loop .inv .state .stands .within))) .0) (c .before .before .before .before .before .before .r .given .1) .on, moves-next SDot (c .before .before .before .before .before .before .before .before .before .before .before .before .before .before .before .before .before .before .before .before .before .pre .sound) (c .before .before .before .before .before .before .before .before .before .before .before .before .before .before .before .before .before .before .loop .inv .state .stands .within) (sym (c .before .before .before .before .before .before .before .before .before .before .before .before .before .before .before .before .before .next-symbol-is .ensures) ∙ c .before .before .before .before .before .before .before .before .before .before .before .before .before .before .before .before .if1 .taken) refl, c .before .before .before .before .before .before .before .before .before .before .before .before .before .before .before .iterate .ensures, on-step _ _ (c .before .before .before .before .before .before .before .before .before .before .before .before .before .before .iterate2 .ensures))) (omega arith) (read-1 (c .before .before .before .before .before .before) .stands .within));
     }
 
 same-length-3 : tie.Need-same-length-3 Inv-loop μ-loop

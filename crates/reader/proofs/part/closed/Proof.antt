@@ -22,10 +22,11 @@ same-length c = search needs
 returns : tie.Need-returns
 unfolding closed
 returns c =
-    let p = c .before .before .put-row .ensures _ (within-step _ _ (c .before .before .before .iterate .ensures) (c .before .before .before .before .before .before .before .before .before .pre .0 .within)) in
-    (later refl (on-step _ _ (c .before .before .before .iterate .ensures)) (p .0),
-    λ from bs slots t zs left s e. by-eq (need-met _ _ _ (sym (c .before .before .before .before .before .before .next-symbol-is .ensures) ∙ c .before .before .before .before .before .if1 .taken))
-    (rw (← c .before .before .before .iterate .ensures) (p .1 _ bs _ _ _ _ (stands-step _ _ (c .before .before .before .iterate .ensures) s) e)))
+    let p = c .before .before .put-row .ensures _ (within-step _ _ (c .before .before .before .iterate .ensures) (c .before .before .before .before .before .before .before .before .before .pre .0 .within)) in (
+      later refl (on-step _ _ (c .before .before .before .iterate .ensures)) (p .0),
+      λ from bs slots t zs left s e. by-eq (need-met _ _ _ (sym (c .before .before .before .before .before .before .next-symbol-is .ensures) ∙ c .before .before .before .before .before .if1 .taken))
+          (rw (← c .before .before .before .iterate .ensures) (p .1 _ bs _ _ _ _ (stands-step _ _ (c .before .before .before .iterate .ensures) s) e)),
+    )
 
 returns-2 : tie.Need-returns-2
 unfolding closed

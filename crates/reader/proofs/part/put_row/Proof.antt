@@ -35,9 +35,10 @@ same-length c = search needs
 
 returns : tie.Need-returns
 returns c ts lt =
-    let b = when-built (c .before .before .before .before .before .build .ensures) (c .before .b .given .1) in
-    (bounded-tree (omega (arith, b .count, b .fit)) (omega arith) lt,
-    λ from bs slots t zs left s e. built bs s e (omega (arith, b .fit)) (b .pool) (ap (λ (k : ℕ). the.Tree k (c .before .before .before .before .before .before .before .before .args .first + k) (c .before .before .before .before .before .before .before .before .args .c)) (b .count)))
+    let b = when-built (c .before .before .before .before .before .build .ensures) (c .before .b .given .1) in (
+      bounded-tree (omega (arith, b .count, b .fit)) (omega arith) lt,
+      λ from bs slots t zs left s e. built bs s e (omega (arith, b .fit)) (b .pool) (ap (λ (k : ℕ). the.Tree k (c .before .before .before .before .before .before .before .before .args .first + k) (c .before .before .before .before .before .before .before .before .args .c)) (b .count)),
+    )
 
 same-length-2 : tie.Need-same-length-2
 same-length-2 c = search needs

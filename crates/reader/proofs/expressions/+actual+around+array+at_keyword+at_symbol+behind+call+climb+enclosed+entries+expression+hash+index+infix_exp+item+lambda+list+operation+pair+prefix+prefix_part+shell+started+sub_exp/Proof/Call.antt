@@ -59,10 +59,11 @@ module _ (t : ℕ) where
   pub returns : lts.Need-returns cs (call-at t) call-reads.Post
   unfolding call
   returns c =
-      let w = within-step _ _ (c .before .before .before .before .iterate .ensures) (c .before .before .before .before .before .before .before .before .before .pre .1 .0 .within) in
-      (later refl (on-step _ _ (c .before .before .before .before .iterate .ensures)) (c .before .before .put-row .ensures (c .before .before .before .before .before .before .before .before .before .args .tokens .now) w .0),
-      λ from t zs left s e. by-eq (choose-true _ _ (sym (c .before .before .before .before .before .before .next-symbol-is .ensures) ∙ c .before .before .before .before .before .if1 .taken)) (rw (← (c .before .before .before .before .iterate .ensures))
-      (c .before .before .put-row .ensures (c .before .before .before .before .before .before .before .before .before .args .tokens .now) w .1 _ [] _ _ _ _ (stands-step _ _ (c .before .before .before .before .iterate .ensures) s) (record { few = tt; root = of-node; refs = (e, refl, refl, refl) }))))
+      let w = within-step _ _ (c .before .before .before .before .iterate .ensures) (c .before .before .before .before .before .before .before .before .before .pre .1 .0 .within) in (
+        later refl (on-step _ _ (c .before .before .before .before .iterate .ensures)) (c .before .before .put-row .ensures (c .before .before .before .before .before .before .before .before .before .args .tokens .now) w .0),
+        λ from t zs left s e. by-eq (choose-true _ _ (sym (c .before .before .before .before .before .before .next-symbol-is .ensures) ∙ c .before .before .before .before .before .if1 .taken)) (rw (← (c .before .before .before .before .iterate .ensures))
+            (c .before .before .put-row .ensures (c .before .before .before .before .before .before .before .before .before .args .tokens .now) w .1 _ [] _ _ _ _ (stands-step _ _ (c .before .before .before .before .iterate .ensures) s) (record { few = tt; root = of-node; refs = (e, refl, refl, refl) }))),
+      )
 
   pub actual-requires : lts.Need-actual-requires cs (call-at t) call-reads.Post
   actual-requires c κs = (falls _ _ _ _ _ _ _ (c .before .before .before .before .before .pre .0) (le-refl _) (lit< tt), c .before .before .before .before .before .pre .1)
@@ -87,8 +88,9 @@ module _ (t : ℕ) where
 
   pub returns-3 : lts.Need-returns-3 cs (call-at t) call-reads.Post
   returns-3 c =
-      let b = bounds (c .before .before .before .before .before .before .before .before .before .actual .ensures .0) (c .before .before .before .before .before .r .given .1) in
-      (later (c .before .before .before .before .before .before .before .before .before .actual .kept .1 .0) (b .on) (c .before .before .put-row2 .ensures (c .before .before .before .before .before .before .before .before .before .before .before .before .before .before .before .args .tokens .now) (b .within) .0),
-      λ from t zs left s e. let q = taken (c .before .before .before .before .before .before .before .before .before .actual .ensures .1 _ _ _ _ s) (c .before .before .before .before .before .r .given .1) in
-      by-eq (ended (c .before .before .before .before .before .before .before .before .before .before .before .before .before .before .before .args .mode) (c .before .before .before .before .before .before .before .before .before .before .before .before .before .before .before .args .tokens .now) (expression (by (c .before .before .before .before .before .before .before .before .before .before .before .before .before .before .before .args .mode)) (c .before .before .before .before .before .before .before .before .before .before .before .before .before .before .before .args .tokens .now) (c .before .before .before .before .before .before .before .before .before .before .before .before .before .before .before .args .less)) t _ _ (sym (c .before .before .before .before .before .before .before .before .before .before .before .before .next-symbol-is .ensures) ∙ c .before .before .before .before .before .before .before .before .before .before .before .if1 .left) (q .eq))
-      (c .before .before .put-row2 .ensures (c .before .before .before .before .before .before .before .before .before .before .before .before .before .before .before .args .tokens .now) (q .stands .within) .1 _ [] _ _ _ _ (q .stands) (record { few = tt; root = of-node; refs = (e, q .head, refl, refl) })))
+      let b = bounds (c .before .before .before .before .before .before .before .before .before .actual .ensures .0) (c .before .before .before .before .before .r .given .1) in (
+        later (c .before .before .before .before .before .before .before .before .before .actual .kept .1 .0) (b .on) (c .before .before .put-row2 .ensures (c .before .before .before .before .before .before .before .before .before .before .before .before .before .before .before .args .tokens .now) (b .within) .0),
+        λ from t zs left s e. let q = taken (c .before .before .before .before .before .before .before .before .before .actual .ensures .1 _ _ _ _ s) (c .before .before .before .before .before .r .given .1) in
+            by-eq (ended (c .before .before .before .before .before .before .before .before .before .before .before .before .before .before .before .args .mode) (c .before .before .before .before .before .before .before .before .before .before .before .before .before .before .before .args .tokens .now) (expression (by (c .before .before .before .before .before .before .before .before .before .before .before .before .before .before .before .args .mode)) (c .before .before .before .before .before .before .before .before .before .before .before .before .before .before .before .args .tokens .now) (c .before .before .before .before .before .before .before .before .before .before .before .before .before .before .before .args .less)) t _ _ (sym (c .before .before .before .before .before .before .before .before .before .before .before .before .next-symbol-is .ensures) ∙ c .before .before .before .before .before .before .before .before .before .before .before .if1 .left) (q .eq))
+            (c .before .before .put-row2 .ensures (c .before .before .before .before .before .before .before .before .before .before .before .before .before .before .before .args .tokens .now) (q .stands .within) .1 _ [] _ _ _ _ (q .stands) (record { few = tt; root = of-node; refs = (e, q .head, refl, refl) })),
+      )

@@ -63,8 +63,9 @@ module _ (t : ℕ) where
   pub returns-2 : lts.Need-returns-2 cs (infix-exp-at t) infix-exp-reads.Post
   unfolding infix-expression item
   returns-2 c =
-      let b = bounds (c .before .before .before .before .before .before .before .before .before .before .behind .ensures .0) (c .before .before .before .before .before .before .r .given .1) in
-      (later (c .before .before .before .before .before .before .before .before .before .before .behind .kept .1 .0) (le-trans (on-step _ _ (c .before .before .before .before .before .before .before .before .before .before .before .before .before .iterate .ensures)) (b .on)) (c .before .before .put-row .ensures (c .before .before .before .before .before .before .before .before .before .before .before .before .before .before .before .before .before .args .tokens .now) (b .within) .0),
-      λ from t zs left s e. let q = taken (c .before .before .before .before .before .before .before .before .before .before .behind .ensures .1 _ _ _ _ (stands-step _ _ (c .before .before .before .before .before .before .before .before .before .before .before .before .before .iterate .ensures) s)) (c .before .before .before .before .before .before .r .given .1) in
-      rw (← (c .before .before .before .before .before .before .before .before .before .before .before .before .before .iterate .ensures), ← (c .before .before .before .before .before .before .before .before .before .before .before .before .order-of .ensures ∙ ap order (ap word (c .before .before .before .before .before .before .before .before .before .before .before .before .before .before .current .ensures) ∙ word-token _ (c .before .before .before .before .before .before .before .before .before .before .before .before .before .before .before .before .before .pre .1 .0 .sound .good (c .before .before .before .before .before .before .before .before .before .before .before .before .before .before .before .before .before .args .c)))), ← (ap word (c .before .before .before .before .before .before .before .before .before .before .before .before .before .before .current .ensures) ∙ word-token _ (c .before .before .before .before .before .before .before .before .before .before .before .before .before .before .before .before .before .pre .1 .0 .sound .good (c .before .before .before .before .before .before .before .before .before .before .before .before .before .before .before .before .before .args .c))), ← (c .before .before .before .infix-mark .ensures)) (by-eq (then-read _ (q .eq))
-      (c .before .before .put-row .ensures (c .before .before .before .before .before .before .before .before .before .before .before .before .before .before .before .before .before .args .tokens .now) (q .stands .within) .1 _ [] _ _ _ _ (q .stands) (record { few = tt; root = of-infix; refs = (e, q .head, refl, refl) }))))
+      let b = bounds (c .before .before .before .before .before .before .before .before .before .before .behind .ensures .0) (c .before .before .before .before .before .before .r .given .1) in (
+        later (c .before .before .before .before .before .before .before .before .before .before .behind .kept .1 .0) (le-trans (on-step _ _ (c .before .before .before .before .before .before .before .before .before .before .before .before .before .iterate .ensures)) (b .on)) (c .before .before .put-row .ensures (c .before .before .before .before .before .before .before .before .before .before .before .before .before .before .before .before .before .args .tokens .now) (b .within) .0),
+        λ from t zs left s e. let q = taken (c .before .before .before .before .before .before .before .before .before .before .behind .ensures .1 _ _ _ _ (stands-step _ _ (c .before .before .before .before .before .before .before .before .before .before .before .before .before .iterate .ensures) s)) (c .before .before .before .before .before .before .r .given .1) in
+            rw (← (c .before .before .before .before .before .before .before .before .before .before .before .before .before .iterate .ensures), ← (c .before .before .before .before .before .before .before .before .before .before .before .before .order-of .ensures ∙ ap order (ap word (c .before .before .before .before .before .before .before .before .before .before .before .before .before .before .current .ensures) ∙ word-token _ (c .before .before .before .before .before .before .before .before .before .before .before .before .before .before .before .before .before .pre .1 .0 .sound .good (c .before .before .before .before .before .before .before .before .before .before .before .before .before .before .before .before .before .args .c)))), ← (ap word (c .before .before .before .before .before .before .before .before .before .before .before .before .before .before .current .ensures) ∙ word-token _ (c .before .before .before .before .before .before .before .before .before .before .before .before .before .before .before .before .before .pre .1 .0 .sound .good (c .before .before .before .before .before .before .before .before .before .before .before .before .before .before .before .before .before .args .c))), ← (c .before .before .before .infix-mark .ensures)) (by-eq (then-read _ (q .eq))
+            (c .before .before .put-row .ensures (c .before .before .before .before .before .before .before .before .before .before .before .before .before .before .before .before .before .args .tokens .now) (q .stands .within) .1 _ [] _ _ _ _ (q .stands) (record { few = tt; root = of-infix; refs = (e, q .head, refl, refl) }))),
+      )

@@ -88,9 +88,10 @@ module _ (t : ℕ) where
   iterate-requires c κs = search needs
 
   pub behind-requires : lts.Need-behind-requires cs (lambda-at t) lambda-reads.Post
-  behind-requires c κs =
-      (falls _ _ _ _ _ _ _ (c .before .before .before .before .before .before .before .before .before .before .before .before .before .before .before .pre .0) (le-trans (read-1 (c .before .before .before) .stands .on) (on-step _ _ (c .before .iterate .ensures))) (lit< tt),
-      (ready-step _ _ (c .before .iterate .ensures) (ready-same (c .before .before .before .before .before .before .before .before .before .before .before .before .before .before .before .pre .1) (c .before .before .before .before .before .before .before .enclosed .kept .1 .0) (read-1 (c .before .before .before) .stands .within)), front-le (read-1 (c .before .before .before) .stands .front)))
+  behind-requires c κs = (
+    falls _ _ _ _ _ _ _ (c .before .before .before .before .before .before .before .before .before .before .before .before .before .before .before .pre .0) (le-trans (read-1 (c .before .before .before) .stands .on) (on-step _ _ (c .before .iterate .ensures))) (lit< tt),
+    (ready-step _ _ (c .before .iterate .ensures) (ready-same (c .before .before .before .before .before .before .before .before .before .before .before .before .before .before .before .pre .1) (c .before .before .before .before .before .before .before .enclosed .kept .1 .0) (read-1 (c .before .before .before) .stands .within)), front-le (read-1 (c .before .before .before) .stands .front)),
+  )
 
   pub enum-known-q : lts.Need-enum-known-q cs (lambda-at t) lambda-reads.Post
   enum-known-q c = c .match2 .keys1

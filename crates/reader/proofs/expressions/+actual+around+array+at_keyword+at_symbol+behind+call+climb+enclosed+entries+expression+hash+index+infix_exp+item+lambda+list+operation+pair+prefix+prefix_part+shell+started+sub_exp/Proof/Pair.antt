@@ -88,9 +88,10 @@ module _ (t : ℕ) where
   iterate-requires-2 c κs = search needs
 
   pub behind-requires : lts.Need-behind-requires cs (pair-at t) pair-reads.Post
-  behind-requires c κs =
-      (omega (arith, c .before .before .before .before .before .before .before .before .before .before .before .before .before .before .pre .0, read-1 (c .before .before .before .before .before .before) .stands .on, read-1 (c .before .before .before .before .before .before) .stands .within, moves-next SColon (c .before .before .before .before .before .before .before .before .before .before .before .before .before .before .pre .1 .sound) (read-1 (c .before .before .before .before .before .before) .stands .within) (sym (c .before .before .before .next-symbol-is .ensures) ∙ not-false _ (c .before .before .if1 .left)) refl, c .before .before .before .before .iterate .ensures, on-step _ _ (c .before .iterate2 .ensures)),
-      (ready-step _ _ (c .before .iterate2 .ensures) (ready-step _ _ (c .before .before .before .before .iterate .ensures) (ready-same (c .before .before .before .before .before .before .before .before .before .before .before .before .before .before .pre .1) (c .before .before .before .before .before .before .before .before .before .before .expression .kept .1 .0) (read-1 (c .before .before .before .before .before .before) .stands .within))), front-le (read-1 (c .before .before .before .before .before .before) .stands .front)))
+  behind-requires c κs = (
+    omega (arith, c .before .before .before .before .before .before .before .before .before .before .before .before .before .before .pre .0, read-1 (c .before .before .before .before .before .before) .stands .on, read-1 (c .before .before .before .before .before .before) .stands .within, moves-next SColon (c .before .before .before .before .before .before .before .before .before .before .before .before .before .before .pre .1 .sound) (read-1 (c .before .before .before .before .before .before) .stands .within) (sym (c .before .before .before .next-symbol-is .ensures) ∙ not-false _ (c .before .before .if1 .left)) refl, c .before .before .before .before .iterate .ensures, on-step _ _ (c .before .iterate2 .ensures)),
+    (ready-step _ _ (c .before .iterate2 .ensures) (ready-step _ _ (c .before .before .before .before .iterate .ensures) (ready-same (c .before .before .before .before .before .before .before .before .before .before .before .before .before .before .pre .1) (c .before .before .before .before .before .before .before .before .before .before .expression .kept .1 .0) (read-1 (c .before .before .before .before .before .before) .stands .within))), front-le (read-1 (c .before .before .before .before .before .before) .stands .front)),
+  )
 
   pub enum-known-q : lts.Need-enum-known-q cs (pair-at t) pair-reads.Post
   enum-known-q c = c .match2 .keys1
@@ -106,9 +107,11 @@ module _ (t : ℕ) where
   returns-3 c = pass-on (second (by (c .before .before .before .before .before .before .before .before .before .before .before .before .before .before .before .before .before .before .before .args .mode)) (c .before .before .before .before .before .before .before .before .before .before .before .before .before .before .before .before .before .before .before .args .tokens .now) (expression (by (c .before .before .before .before .before .before .before .before .before .before .before .before .before .before .before .before .before .before .before .args .mode)) (c .before .before .before .before .before .before .before .before .before .before .before .before .before .before .before .before .before .before .before .args .tokens .now) (c .before .before .before .before .before .before .before .before .before .before .before .before .before .before .before .before .before .before .before .args .less)) _ _ (read-1 (c .before .before .before .before .before .before .before .before .before .before .before) .eq) (sym (c .before .before .before .before .before .before .before .before .next-symbol-is .ensures) ∙ not-false _ (c .before .before .before .before .before .before .before .if1 .left)) (c .before .before .before .before .before .before .before .before .before .iterate .ensures) (c .before .before .before .before .before .before .iterate2 .ensures)) (c .before .before .before .before .behind .ensures .1 _ _ _ _ (stands-step _ _ (c .before .before .before .before .before .before .iterate2 .ensures) (stands-step _ _ (c .before .before .before .before .before .before .before .before .before .iterate .ensures) (read-1 (c .before .before .before .before .before .before .before .before .before .before .before) .stands)))) (c .enum-told2 .given .1)
 
   pub put-row-requires : lts.Need-put-row-requires cs (pair-at t) pair-reads.Post
-  put-row-requires c κs =
-      (fits-same _ _ _ (c .before .before .before .before .before .before .before .before .before .before .before .before .before .before .before .before .before .before .before .before .before .pre .1 .fits) (c .before .before .before .before .before .before .behind .kept .1 .0 ∙ c .before .before .before .before .before .before .before .before .before .before .before .before .before .before .before .before .before .expression .kept .1 .0),
-      small-in (c .before .before .before .before .before .before .before .before .before .before .before .before .before .before .before .before .before .before .before .before .before .pre .1) (within-step _ _ (c .before .before .before .before .before .before .before .before .before .before .before .iterate .ensures) (read-1 (c .before .before .before .before .before .before .before .before .before .before .before .before .before) .stands .within)), small-in (c .before .before .before .before .before .before .before .before .before .before .before .before .before .before .before .before .before .before .before .before .before .pre .1) (read-2 (c .before .before) .stands .within))
+  put-row-requires c κs = (
+    fits-same _ _ _ (c .before .before .before .before .before .before .before .before .before .before .before .before .before .before .before .before .before .before .before .before .before .pre .1 .fits) (c .before .before .before .before .before .before .behind .kept .1 .0 ∙ c .before .before .before .before .before .before .before .before .before .before .before .before .before .before .before .before .before .expression .kept .1 .0),
+    small-in (c .before .before .before .before .before .before .before .before .before .before .before .before .before .before .before .before .before .before .before .before .before .pre .1) (within-step _ _ (c .before .before .before .before .before .before .before .before .before .before .before .iterate .ensures) (read-1 (c .before .before .before .before .before .before .before .before .before .before .before .before .before) .stands .within)),
+    small-in (c .before .before .before .before .before .before .before .before .before .before .before .before .before .before .before .before .before .before .before .before .before .pre .1) (read-2 (c .before .before) .stands .within),
+  )
 
   pub same-length-4 : lts.Need-same-length-4 cs (pair-at t) pair-reads.Post
   same-length-4 c = c .before .before .put-row .kept .0 ∙ c .before .before .before .before .before .before .before .before .before .behind .kept .1 .0 ∙ c .before .before .before .before .before .before .before .before .before .before .before .before .before .before .before .before .before .before .before .before .expression .kept .1 .0

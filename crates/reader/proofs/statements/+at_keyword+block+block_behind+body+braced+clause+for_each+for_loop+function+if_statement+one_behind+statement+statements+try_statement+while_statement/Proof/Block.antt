@@ -91,9 +91,10 @@ module _ (t : ℕ) where
   iterate-requires-3 c κs = search needs
 
   pub statements-requires : lts.Need-statements-requires cs (block-at t) block-reads.Post
-  statements-requires c κs =
-      (falls _ _ _ _ _ _ _ (c .before .before .before .before .before .before .before .before .before .before .before .before .before .before .before .pre .0) (le-trans (on-step _ _ (c .before .before .before .before .before .before .before .before .before .before .before .before .iterate .ensures)) (le-trans (on-step _ _ (c .before .before .before .before .before .before .before .before .before .before .before .iterate2 .ensures)) (le-trans (read-1 (c .before .before .before) .stands .on) (on-step _ _ (c .before .iterate3 .ensures))))) (lit< tt),
-      (ready-step _ _ (c .before .iterate3 .ensures) (ready-same (c .before .before .before .before .before .before .before .before .before .before .before .before .before .before .before .pre .1) (c .before .before .before .before .before .before .before .statement .kept .1 .0) (read-1 (c .before .before .before) .stands .within)), front-le (read-1 (c .before .before .before) .stands .front)))
+  statements-requires c κs = (
+    falls _ _ _ _ _ _ _ (c .before .before .before .before .before .before .before .before .before .before .before .before .before .before .before .pre .0) (le-trans (on-step _ _ (c .before .before .before .before .before .before .before .before .before .before .before .before .iterate .ensures)) (le-trans (on-step _ _ (c .before .before .before .before .before .before .before .before .before .before .before .iterate2 .ensures)) (le-trans (read-1 (c .before .before .before) .stands .on) (on-step _ _ (c .before .iterate3 .ensures))))) (lit< tt),
+    (ready-step _ _ (c .before .iterate3 .ensures) (ready-same (c .before .before .before .before .before .before .before .before .before .before .before .before .before .before .before .pre .1) (c .before .before .before .before .before .before .before .statement .kept .1 .0) (read-1 (c .before .before .before) .stands .within)), front-le (read-1 (c .before .before .before) .stands .front)),
+  )
 
   pub enum-known-q : lts.Need-enum-known-q cs (block-at t) block-reads.Post
   enum-known-q c = c .match2 .keys1
