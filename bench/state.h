@@ -78,7 +78,7 @@ static inline uint32_t *row_of(const Reader *r, uint32_t reference) {
     return r->pool + (size_t)(reference - 1) * ROW;
 }
 
-/* The lowest free row; its last word is zero as the pool was cleared. */
+/* The lowest free row, which ends at the current token; its next is zero as the pool was cleared. */
 static inline uint32_t build4(Reader *r, uint32_t kind, uint32_t mark, uint32_t place,
                               uint32_t c0, uint32_t c1, uint32_t c2, uint32_t c3) {
     if (r->used == r->rows)
@@ -92,6 +92,7 @@ static inline uint32_t build4(Reader *r, uint32_t kind, uint32_t mark, uint32_t 
     row[CHILD + 1] = c1;
     row[CHILD + 2] = c2;
     row[CHILD + 3] = c3;
+    row[ROW_END] = r->at;
     return r->used;
 }
 

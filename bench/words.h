@@ -75,8 +75,8 @@ enum {
     T_ASYNC = KEYWORD(27)
 };
 
-/* Words of a row; NEXT is behind the children. */
-enum { KIND = 0, MARK = 1, PLACE = 2, CHILD = 3, CHILDREN = 4, NEXT = CHILD + CHILDREN };
+/* Words of a row; NEXT is behind the children, and ROW_END, the place of the row's last token, behind it. */
+enum { KIND = 0, MARK = 1, PLACE = 2, CHILD = 3, CHILDREN = 4, NEXT = CHILD + CHILDREN, ROW_END };
 
 /* Kinds of rows. */
 enum {

@@ -90,7 +90,7 @@ class Wishes(unittest.TestCase):
         wishes = [wish for _, _, wish in compare.parts(5)]
         self.assertEqual(sum("--rows scarce" in wish for wish in wishes), 14)
         self.assertEqual(sum("--rows edge" in wish for wish in wishes), 2)
-        self.assertEqual(len(set(wishes)), 36)
+        self.assertEqual(len(set(wishes)), 38)
         for mode in ("old", "strict"):
             self.assertIn(f"valid --seed 5 --count 200000 --mode {mode}", wishes)
             self.assertIn(f"valid --seed 6 --count 200000 --rows scarce --mode {mode}", wishes)

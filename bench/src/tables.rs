@@ -9,6 +9,9 @@ const SIZES: [usize; 6] = [100, 300, 1000, 3000, 10000, 32768];
 /// As many different scripts of a size are read one after the other as have together about so many tokens.
 const TOKENS: usize = 32768;
 
+/// The rows that the program `outline` lends.
+const OUTLINE_ROWS: usize = 1800;
+
 /// One line of the main table.
 struct Line {
     size: usize,
@@ -124,7 +127,7 @@ fn print_clearing(readers: &[Reader], samples: usize) {
     let names: String = pooled.iter().map(|reader| format!("{:>12}", reader.name())).collect();
     println!("\nWhat clearing costs: statements of {} tokens, ns a script", SIZES[0]);
     println!("{:>10}{:>12}{}", "pool rows", "pool words", names);
-    for rows in [most, 2000, MOST_ROWS] {
+    for rows in [most, OUTLINE_ROWS, MOST_ROWS] {
         let case =
             |(tokens, _): &(Vec<u16>, usize)| Case { tokens: tokens.clone(), words: rows * ROW };
         let cases: Vec<Case> = scripts.iter().map(case).collect();

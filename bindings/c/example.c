@@ -10,9 +10,10 @@
 #include <string.h>
 
 #include "shigthapul.h"
+#include "worded.h"
 
 /* The buffers of the program `outline`: the longest file and a byte more, its tokens, its rows. */
-enum { BYTES = 60001, TOKENS = 20000, ROWS = 2000, POOL = ROWS * SHIGTHAPUL_ROW_WORDS };
+enum { BYTES = 60001, TOKENS = 20000, ROWS = 1800, POOL = ROWS * SHIGTHAPUL_ROW_WORDS };
 
 static uint8_t bytes[BYTES];
 static uint16_t tokens[TOKENS];
@@ -47,40 +48,6 @@ static void print_rows(const struct shigthapul_answer *answer) {
         printf("%" PRIu32 "%c", pool[i], (i + 1) % SHIGTHAPUL_ROW_WORDS == 0 ? '\n' : ' ');
 }
 
-/* The operator of a row or the word of a bool, empty for other kinds. */
-static const char *sign(const struct shigthapul_row *row) {
-    uint32_t mark = row->mark & ~(uint32_t)SHIGTHAPUL_GROUPED;
-    switch (row->kind) {
-    case SHIGTHAPUL_KIND_INFIX:
-        return shigthapul_infix_text(mark);
-    case SHIGTHAPUL_KIND_PREFIX:
-        return shigthapul_prefix_text(mark);
-    case SHIGTHAPUL_KIND_SUFFIX:
-        return shigthapul_suffix_text(mark);
-    case SHIGTHAPUL_KIND_BOOL:
-        return mark == SHIGTHAPUL_TRUE ? "true" : "false";
-    default:
-        return "";
-    }
-}
-
-/* Prints a word behind a blank, where there is something to say. */
-static void print_word(bool said, const char *word) {
-    if (said && *word != '\0')
-        printf(" %s", word);
-}
-
-/* Prints a row in words. */
-static void print_row(const struct shigthapul_row *row, int depth) {
-    printf("%*s%s", 2 * depth, "", shigthapul_kind_text(row->kind));
-    print_word(true, sign(row));
-    print_word(shigthapul_has(row, SHIGTHAPUL_KIND_CALL, SHIGTHAPUL_THREAD), "thread");
-    print_word(shigthapul_has(row, SHIGTHAPUL_KIND_CALL, SHIGTHAPUL_ASYNC), "async");
-    print_word(shigthapul_has(row, SHIGTHAPUL_KIND_SHELL, SHIGTHAPUL_RAW), "raw");
-    print_word((row->mark & SHIGTHAPUL_GROUPED) != 0, "grouped");
-    printf(" at %" PRIu32 "\n", row->place);
-}
-
 /* Has a row printed before those that wait already; nothing for reference 0. */
 static void push(size_t *count, uint32_t reference, int depth) {
     if (reference == 0)
@@ -98,7 +65,9 @@ static void print_tree(uint32_t root) {
         count -= 1;
         int depth = waiting[count].depth;
         struct shigthapul_row row = shigthapul_row_at(pool, waiting[count].reference);
-        print_row(&row, depth);
+        printf("%*s", 2 * depth, "");
+        print_row(&row);
+        putchar('\n');
         push(&count, row.next, depth);
         for (size_t slot = SHIGTHAPUL_CHILDREN; slot-- > 0;)
             push(&count, row.children[slot], depth + 1);

@@ -33,12 +33,15 @@ extern "C" {
    A refusal                         its number, its place, 0, 0 */
 enum { SHIGTHAPUL_ANSWER_WORDS = 4 };
 
-/* The words of a row of the pool: kind, mark, place, children, next. A reference is a row's number plus one, and 0 for
-   none. A pool of `n` words has n / SHIGTHAPUL_ROW_WORDS rows, at most SHIGTHAPUL_MOST_ROWS. No token takes more than
-   two rows, so SHIGTHAPUL_TOKEN_WORDS words of a pool for each token, EOF counted, are enough for any script. No row is
-   written as more than SHIGTHAPUL_ROW_TOKENS tokens, so that many for each row of a tree are enough to write it. */
+/* The words of a row of the pool: kind, mark, place, children, next, end; struct shigthapul_row, below, has them by name.
+   A reference is a row's number plus one, and 0 for none. A pool of `n` words has n / SHIGTHAPUL_ROW_WORDS rows, at most
+   SHIGTHAPUL_MOST_ROWS. No token takes more than two rows, so SHIGTHAPUL_TOKEN_WORDS words of a pool for each token, EOF
+   counted, are enough for any script. No row is written as more than SHIGTHAPUL_ROW_TOKENS tokens, so that many for each
+   row of a tree are enough to write it.
+
+   A row had eight words before it had its end: a program that was built then has to be built anew. */
 enum {
-    SHIGTHAPUL_ROW_WORDS = 8,
+    SHIGTHAPUL_ROW_WORDS = 9,
     SHIGTHAPUL_CHILDREN = 4,
     SHIGTHAPUL_MOST_ROWS = 65535,
     SHIGTHAPUL_SMALL_ROWS = 4096, /* what the functions for threads with little stack look at */
@@ -85,8 +88,8 @@ void shigthapul_text(const uint8_t *payload, size_t payload_len, const uint8_t *
 
 /* Checks that the rows which `root` reaches by child and next words are a tree: one of an expression, a statement or a
    block. Otherwise the refusal is SHIGTHAPUL_REFUSED_NO_TREE, at 0 where the pool has no such root, else at the reference
-   of the first bad row. Rows that the root doesn't reach, and places, are not looked at. docs/GUIDE.md says what a tree
-   is. */
+   of the first bad row. Rows that the root doesn't reach, places and ends are not looked at. docs/GUIDE.md says what a
+   tree is. */
 void shigthapul_check(const uint32_t *pool, size_t pool_len, size_t root, uint64_t *answer, size_t answer_len);
 
 /* Checks a tree in the same way, and writes it as a script: token words into the front of `words`, EOF last, and for each
@@ -136,13 +139,18 @@ static inline size_t shigthapul_count(const struct shigthapul_answer *answer) {
     return shigthapul_is_accepted(answer) ? (size_t)answer->words[1] : 0;
 }
 
-/* A row, and the row of a reference that is not 0: to look at, and to put another in its place. */
+/* A row, and the row of a reference that is not 0: to look at, and to put another in its place.
+
+   The end is where the piece of the script ends that the row stands for: the place of its last token, which is the token
+   that was the current one when the row was built. A semicolon that was eaten belongs to the piece; the brackets around
+   it don't. docs/GUIDE.md says by kind where a row ends. */
 struct shigthapul_row {
     uint32_t kind;
     uint32_t mark;
     uint32_t place;
     uint32_t children[SHIGTHAPUL_CHILDREN];
     uint32_t next;
+    uint32_t end;
 };
 
 static inline struct shigthapul_row shigthapul_row_at(const uint32_t *pool, uint32_t reference) {

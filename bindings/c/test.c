@@ -26,7 +26,7 @@ static void check(bool holds, const char *text, int line) {
         printf("line %d: %s\n", line, text);
 }
 
-static const struct shigthapul_row LEAF = {.kind = SHIGTHAPUL_KIND_IDENTIFIER, .place = 4};
+static const struct shigthapul_row LEAF = {.kind = SHIGTHAPUL_KIND_IDENTIFIER, .place = 4, .end = 9};
 
 /* How many words of the pool are not 0, from a row on. */
 static size_t left(size_t row) {
@@ -46,6 +46,7 @@ static void test_expression(void) {
     CHECK(left(3) == 0);
     struct shigthapul_row row = shigthapul_row_at(pool, shigthapul_root(&answer));
     CHECK(row.kind == SHIGTHAPUL_KIND_INFIX && row.mark == SHIGTHAPUL_INFIX_PLUS && row.place == 1 && row.next == 0);
+    CHECK(row.end == 2 && shigthapul_row_at(pool, 1).end == 0 && shigthapul_row_at(pool, 2).end == 2);
     CHECK(row.children[0] == 1 && row.children[1] == 2 && row.children[2] == 0 && row.children[3] == 0);
     CHECK(!shigthapul_has(&row, SHIGTHAPUL_KIND_CALL, SHIGTHAPUL_THREAD));
 }
@@ -172,6 +173,7 @@ static void test_tree(void) {
     shigthapul_put_row(pool, 1, &LEAF);
     shigthapul_put_row(pool, 2, &not);
     CHECK(shigthapul_row_at(pool, 1).place == 4 && shigthapul_row_at(pool, 2).children[0] == 1);
+    CHECK(shigthapul_row_at(pool, 1).end == 9 && shigthapul_row_at(pool, 2).end == 0);
     shigthapul_check(pool, LENGTH(pool), 2, ANSWER(answer));
     CHECK(shigthapul_is_accepted(&answer) && shigthapul_count(&answer) == 0);
     shigthapul_write(pool, LENGTH(pool), 2, words, LENGTH(words), places, LENGTH(places), ANSWER(answer));

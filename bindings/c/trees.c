@@ -1,7 +1,6 @@
 /* Reads the worked examples of trees, oracle/trees.txt, on standard input, and has the C functions check and write each: in
    full and small, with room enough, just enough and one too little. Prints a line for each check that fails, then the
    counts; the status is 1 if any failed. */
-#include <ctype.h>
 #include <stdio.h>
 #include <stdlib.h>
 #include <string.h>
@@ -49,26 +48,13 @@ static void parse_rows(const char *text) {
         pool[left] = DIRT;
 }
 
-/* The word of a token by its text. */
-static uint16_t word_of(const char *text) {
-    uint16_t word = spelled(text);
-    if (word != 0)
-        return word;
-    if (isdigit((unsigned char)*text))
-        return shigthapul_word(strchr(text, '.') == NULL ? SHIGTHAPUL_CLASS_INTEGER : SHIGTHAPUL_CLASS_FLOAT, 0);
-    return shigthapul_word(*text == '"'    ? SHIGTHAPUL_CLASS_STR
-                           : *text == '\'' ? SHIGTHAPUL_CLASS_CHAR
-                                           : SHIGTHAPUL_CLASS_IDENTIFIER,
-                           0);
-}
-
 /* Takes what is written apart: the tokens, EOF behind them, and behind a bar the places that aren't 0. */
 static void parse_written(char *text) {
     char *tokens = text, *places = strchr(text, '|');
     if (places != NULL)
         *places++ = '\0';
     for (char *token = strtok(tokens, " "); token != NULL; token = strtok(NULL, " "))
-        example.words[example.value++] = word_of(token);
+        example.words[example.value++] = spelled_token(token);
     example.words[example.value++] = shigthapul_word(SHIGTHAPUL_CLASS_EOF, 0);
     for (char *pair = places == NULL ? NULL : strtok(places, " "); pair != NULL; pair = strtok(NULL, " ")) {
         char *place;

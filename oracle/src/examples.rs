@@ -2,18 +2,21 @@
 use crate::batch::{Answer, Case};
 use crate::gen;
 use crate::judge::difference;
-use crate::model::{Entry, Mode, MOST_ROWS, ROW};
+use crate::model::{Entry, Mode, END, MOST_ROWS, ROW};
 use crate::words::*;
 use crate::{compare, text, tree};
 use std::io;
 
 const TABLE: &str = include_str!("../examples.txt");
 const MODES: &str = include_str!("../modes.txt");
+const ENDS: &str = include_str!("../ends.txt");
 
 /// Stands in the table of modes for the answer of the old mode.
 const SAME: &str = "same";
 
-/// A case and what is to come of it: `no NUMBER PLACE`, or `ok PLACE` with or without a tree.
+/// A case and what is to come of it: `no NUMBER PLACE`, `ok PLACE` with or without a tree, or the ends
+/// of the rows.
+#[derive(Clone)]
 pub struct Example {
     pub case: Case,
     pub expected: String,
@@ -38,6 +41,12 @@ pub fn modes() -> io::Result<Vec<Example>> {
         examples.push(Example { case: case.by(Mode::Strict), expected: strict.into() });
     }
     Ok(examples)
+}
+
+/// The examples of the table of ends.
+pub fn ends() -> io::Result<Vec<Example>> {
+    let cases = cases(ENDS, 2)?.into_iter();
+    Ok(cases.map(|(case, lines)| Example { case, expected: lines[1].into() }).collect())
 }
 
 /// The cases of a table, each with its lines, of which there are `size`: the first has the entry and
@@ -112,22 +121,24 @@ fn long() -> Vec<Example> {
 /// expected one and only the model can give it.
 pub fn check(example: &Example) -> Option<Result<(), String>> {
     let answer = example.case.answer();
-    let (short, full) = outcome(&answer);
-    if example.expected != short && example.expected != full {
-        return Some(Err(format!("expected {}\n  model    {}", example.expected, full)));
+    let outcomes = outcomes(&answer);
+    if !outcomes.contains(&example.expected) {
+        let told = outcomes.join("\n  or       ");
+        return Some(Err(format!("expected {}\n  model    {}", example.expected, told)));
     }
     difference(&example.case, &answer)
 }
 
-/// An answer in the words of the table, without and with its tree.
-fn outcome(answer: &Answer) -> (String, String) {
+/// An answer in the words of the tables: without and with its tree, and by the ends of its rows.
+fn outcomes(answer: &Answer) -> Vec<String> {
     if answer.words[0] != 0 {
-        let refused = format!("no {} {}", answer.words[0], answer.words[1]);
-        return (refused.clone(), refused);
+        return vec![format!("no {} {}", answer.words[0], answer.words[1])];
     }
+    let rows = answer.row_arrays();
     let accepted = format!("ok {}", answer.words[3]);
-    let full = format!("{} {}", accepted, tree::line(&answer.row_arrays(), answer.root()));
-    (accepted, full)
+    let full = format!("{} {}", accepted, tree::line(&rows, answer.root()));
+    let ends: Vec<String> = rows.iter().map(|row| row[END].to_string()).collect();
+    vec![accepted, full, format!("ends {}", ends.join(" "))]
 }
 
 #[cfg(test)]
@@ -137,9 +148,9 @@ mod tests {
     #[test]
     fn every_example_holds() {
         crate::on_large_stack(|| {
-            let (examples, modes) = (all().unwrap(), modes().unwrap());
-            assert!(examples.len() > 60 && modes.len() > 40);
-            for example in examples.into_iter().chain(modes) {
+            let (examples, modes, ends) = (all().unwrap(), modes().unwrap(), ends().unwrap());
+            assert!(examples.len() > 60 && modes.len() > 40 && ends.len() > 40);
+            for example in [examples, modes, ends].concat() {
                 if let Some(Err(what)) = check(&example) {
                     panic!("{}", what);
                 }
@@ -149,7 +160,11 @@ mod tests {
 
     #[test]
     fn a_wrong_expectation_is_noticed() {
-        let wrong = repeated("X", 1, [&[IDENTIFIER], &[], &[]], "ok 1");
-        assert!(check(&wrong).unwrap().is_err());
+        for (expected, holds) in
+            [("ok 0", true), ("ends 0", true), ("ok 1", false), ("ends 1", false)]
+        {
+            let example = repeated("X", 1, [&[IDENTIFIER], &[], &[]], expected);
+            assert_eq!(check(&example).unwrap().is_ok(), holds, "{}", expected);
+        }
     }
 }

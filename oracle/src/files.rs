@@ -8,7 +8,7 @@ use crate::words;
 
 /// The limits of the printing program: bytes of a file, rows.
 pub const MOST_BYTES: usize = 60_000;
-pub const MOST_ROWS: usize = 2_000;
+pub const MOST_ROWS: usize = 1_800;
 
 /// The bytes of a field in front of its payload.
 pub const HEAD: usize = 3;
@@ -135,13 +135,13 @@ mod tests {
         let example = [7, 0, 1, 97, 8, 0, 1, 1, 7, 0, 1, 98, 8, 0, 1, 3, 7, 0, 1, 99, 2, 0, 0];
         let lines = [
             "ok 7 7 5",
-            "2 0 0 0 0 0 0 0",
-            "2 0 2 0 0 0 0 0",
-            "2 0 4 0 0 0 0 0",
-            "12 2 3 2 3 0 0 0",
-            "12 0 1 1 4 0 0 0",
-            "38 0 0 5 0 0 0 0",
-            "46 0 0 6 0 0 0 0\n",
+            "2 0 0 0 0 0 0 0 0",
+            "2 0 2 0 0 0 0 0 2",
+            "2 0 4 0 0 0 0 0 4",
+            "12 2 3 2 3 0 0 0 4",
+            "12 0 1 1 4 0 0 0 4",
+            "38 0 0 5 0 0 0 0 4",
+            "46 0 0 6 0 0 0 0 5\n",
         ];
         assert_eq!(outline(&example), lines.join("\n"));
     }
@@ -183,7 +183,10 @@ mod tests {
     #[test]
     fn rows_run_out() {
         let names = |count| file(&[vec![IDENTIFIER; count], vec![EOF]].concat());
-        assert!(outline(&names(999)).starts_with("ok 1999 1999 999\n"));
-        assert_eq!(outline(&names(1000)), "no 3 1000\n");
+        assert!(outline(&names(899)).starts_with("ok 1799 1799 899\n"));
+        assert_eq!(outline(&names(900)), "no 3 900\n");
+        let breaks = |count| file(&[[BREAK, SEMICOLON].repeat(count), vec![EOF]].concat());
+        assert!(outline(&breaks(1799)).starts_with("ok 1800 1800 3598\n"));
+        assert_eq!(outline(&breaks(1800)), "no 3 3600\n");
     }
 }

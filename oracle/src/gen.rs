@@ -2,6 +2,7 @@
 mod chains;
 mod damage;
 mod grammar;
+pub mod lengths;
 mod limits;
 mod loose;
 mod nesting;
@@ -12,6 +13,7 @@ pub mod token_files;
 use crate::batch::Case;
 use crate::model::{Entry, Mode, NO_ROW, ROW};
 use crate::words::{self, EOF};
+use lengths::left_over;
 use rng::Rng;
 
 pub const ENTRIES: [Entry; 3] = [Entry::Expression, Entry::Statement, Entry::Script];
@@ -159,7 +161,7 @@ impl Maker {
         if kind == Kind::Limits {
             self.overstep(&mut case);
         }
-        case.pool = enough(&case.tokens) + self.rng.below(ROW);
+        case.pool = enough(&case.tokens) + left_over(&mut self.rng);
         case
     }
 
@@ -229,7 +231,7 @@ fn with_few_rows(rng: &mut Rng, case: Case) -> Case {
         1 => needed.saturating_sub(1),
         _ => rng.below(needed + 1),
     };
-    Case { pool: rows * ROW + rng.below(ROW), ..case }
+    Case { pool: rows * ROW + left_over(rng), ..case }
 }
 
 /// The same case with the fewest rows that don't run out, or one less.

@@ -1,9 +1,10 @@
 //! One case by model and original: whether the original gives the model's answer.
 use crate::batch::{Answer, Case};
 use crate::compare::summary;
+use crate::ends;
 use crate::gen;
 use crate::kinds;
-use crate::model::{Mode, Row, CHILDREN, NO_ROW, ROW, WRONG_SIGN};
+use crate::model::{Mode, Row, CHILDREN, END, NO_ROW, ROW, WRONG_SIGN};
 use crate::original::{self, Outcome, UNKNOWN};
 use crate::places;
 use crate::signs;
@@ -30,7 +31,8 @@ pub fn difference(case: &Case, answer: &Answer) -> Option<Result<(), String>> {
         return None;
     }
     let outcome = original::run(case);
-    let found = unlike(answer, &outcome).or_else(|| places::misplaced(case, answer));
+    let misplaced = || places::misplaced(case, answer).or_else(|| ends::misplaced(case, answer));
+    let found = unlike(answer, &outcome).or_else(misplaced);
     let told = |what| format!("model {}, original {}: {}", summary(answer), outcome, what);
     Some(found.map_or(Ok(()), |what| Err(told(what))))
 }
@@ -103,12 +105,12 @@ fn unlike(answer: &Answer, outcome: &Outcome) -> Option<String> {
     Some(format!("row {}: model {:?}, original {:?}", number, own, row))
 }
 
-/// Rows agree in all that the original's tree holds.
+/// Rows agree in all that the original's tree holds; it has no ends.
 fn same_row(own: &[u32], row: &Row) -> bool {
     own[0] == row[0]
         && own[1] % kinds::GROUPED == row[1]
         && (row[2] == UNKNOWN || own[2] == row[2])
-        && own[CHILDREN.start..] == row[CHILDREN.start..]
+        && own[CHILDREN.start..END] == row[CHILDREN.start..END]
 }
 
 #[cfg(test)]
@@ -129,7 +131,8 @@ mod tests {
         for text in ["var x = f ( a , ( b ) ) - c * d [ 1 ] ;", "while ( a ) { b . c ++ ; }"] {
             let (case, answer) = (case(text), case(text).answer());
             assert_eq!(difference(&case, &answer), Some(Ok(())));
-            for index in 0..answer.rows.len() {
+            // Other ends are noticed where rows are lacking: `ends` has a test of that.
+            for index in (0..answer.rows.len()).filter(|index| index % ROW != END) {
                 let mut other = answer.clone();
                 other.rows[index] ^= 1;
                 let noticed = difference(&case, &other).unwrap().is_err();

@@ -1,6 +1,7 @@
 //! The oracle's commands.
 mod batch;
 mod compare;
+mod ends;
 mod examples;
 mod files;
 mod gen;
@@ -32,7 +33,7 @@ const USAGE: &str = "commands:
   gen KIND [--seed N] [--count N] [--rows plenty|scarce|edge] [--mode old|strict]
                              a batch of cases on standard output
       (kinds: short valid damaged loose noise chains nesting limits mixed)
-  gen examples [--mode old|strict]   a batch of the worked examples
+  gen examples|ends [--mode old|strict]   a batch of the worked examples, or of those of rows' ends
   gen modes --mode old|strict        a batch of those that are there with both modes' answers
   record [--every N] [--most BYTES]   the cases of the batch on standard input, each with its answer
       (one of every N cases; no records of more than so many bytes; stops where model and original
@@ -76,11 +77,8 @@ fn run(arguments: &[String]) -> io::Result<bool> {
     let command = arguments.first().map_or("", String::as_str);
     let rest = arguments.get(1..).unwrap_or(&[]);
     match (command, rest) {
-        ("gen", [kind]) if kind == "examples" => generate(cases_of(examples::all()?)),
-        ("gen", [kind, option, name]) if kind == "examples" && option == "--mode" => {
-            let by = mode(name)?;
-            generate(cases_of(examples::all()?).map(|case| case.by(by)))
-        }
+        ("gen", [kind, rest @ ..]) if kind == "examples" => generate_by(examples::all()?, rest),
+        ("gen", [kind, rest @ ..]) if kind == "ends" => generate_by(examples::ends()?, rest),
         ("gen", [kind, option, name]) if kind == "modes" && option == "--mode" => {
             let by = mode(name)?;
             generate(cases_of(examples::modes()?).filter(|case| case.mode == by))
@@ -203,6 +201,16 @@ fn shown(arguments: &[String]) -> io::Result<batch::Case> {
 /// The cases of some examples.
 fn cases_of(examples: Vec<examples::Example>) -> impl Iterator<Item = batch::Case> {
     examples.into_iter().map(|example| example.case)
+}
+
+/// Writes a batch of examples, in the old mode unless another is named.
+fn generate_by(examples: Vec<examples::Example>, options: &[String]) -> io::Result<bool> {
+    let by = match options {
+        [] => model::Mode::Old,
+        [option, name] if option == "--mode" => mode(name)?,
+        _ => return Err(wrong(format!("unknown option {}\n{}", options.join(" "), USAGE))),
+    };
+    generate(cases_of(examples).map(|case| case.by(by)))
 }
 
 fn generate(cases: impl Iterator<Item = batch::Case>) -> io::Result<bool> {

@@ -9,13 +9,15 @@ pub use reader::MOST_OPEN;
 use reader::{Read, Reader, Refusal};
 
 /// Words of a row, and the most rows a pool has.
-pub const ROW: usize = 8;
+pub const ROW: usize = 9;
 pub const MOST_ROWS: usize = 65535;
 pub type Row = [u32; ROW];
 
-/// Where a row's children stand, behind kind, mark and place, and its next word.
+/// Where a row's children stand, behind kind, mark and place; its next word; and its end, the place of
+/// the current token when it was built.
 pub const CHILDREN: std::ops::Range<usize> = 3..7;
 pub const NEXT: usize = 7;
+pub const END: usize = 8;
 
 /// The three entries that read tokens.
 #[derive(Clone, Copy, Debug, PartialEq)]

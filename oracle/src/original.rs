@@ -10,10 +10,10 @@ use crate::parser::Parser;
 use layout::Layout;
 use std::fmt;
 
-/// Stands for a place that the original's tree doesn't hold.
+/// Stands for a place or an end that the original's tree doesn't hold.
 pub const UNKNOWN: u32 = u32::MAX;
 
-/// Rows are as far as the tree tells: no grouped mark, and places of leaves and names only.
+/// Rows are as far as the tree tells: no grouped mark, no ends, and places of leaves and names only.
 #[derive(Debug, PartialEq)]
 pub enum Outcome {
     Accepted { root: u32, place: u32, rows: Vec<Row> },

@@ -3,7 +3,7 @@
 use crate::batch::{self, Answer, Case};
 use crate::compare::describe;
 use crate::judge::{self, OURS};
-use crate::model::Mode;
+use crate::model::{Mode, ROW};
 use crate::signs::Missing;
 use std::collections::BTreeMap;
 use std::fmt;
@@ -13,13 +13,23 @@ use std::io::{self, Read, Write};
 pub struct Choice {
     /// Every so many cases one, from the first on.
     pub every: usize,
-    /// Records of more bytes are left out.
+    /// Records of more bytes are left out, the ends of rows not counted.
     pub most: usize,
 }
 
 impl Default for Choice {
     fn default() -> Choice {
         Choice { every: 1, most: usize::MAX }
+    }
+}
+
+/// The bytes of a word in a record, and so of a row's end.
+const WORD: usize = 4;
+
+impl Choice {
+    /// Whether a record of so many bytes, so many words of rows among them, isn't too long.
+    pub fn takes(&self, bytes: usize, words: usize) -> bool {
+        bytes - WORD * (words / ROW) <= self.most
     }
 }
 
@@ -51,7 +61,7 @@ pub fn record(
         if number % choice.every == 0 {
             let answer = model(&case);
             let bytes = recorded(&case, &answer)?;
-            if bytes.len() <= choice.most {
+            if choice.takes(bytes.len(), answer.rows.len()) {
                 if let Err(what) = tally.count(&case, &answer, &model) {
                     let told = format!("case {} differs: {}\n  {}", number, describe(&case), what);
                     return Ok(Err(told));
@@ -132,8 +142,8 @@ mod tests {
     const VALID: Wish =
         Wish { kind: Kind::Valid, seed: 2, count: Some(30), rows: Rows::Plenty, mode: Mode::Old };
 
-    /// The sizes of the records.
-    fn sizes(choice: &Choice) -> Vec<usize> {
+    /// The sizes of the records: all bytes, and those that count.
+    fn sizes(choice: &Choice) -> Vec<(usize, usize)> {
         let mut bytes = vec![];
         record(&mut &batch_of(&VALID)[..], &mut bytes, choice, Case::answer).unwrap().unwrap();
         let mut rest = &bytes[..];
@@ -141,7 +151,8 @@ mod tests {
         while let Some(case) = batch::read_case(&mut rest).unwrap() {
             let answer = batch::read_answer(&mut rest).unwrap().unwrap();
             assert_eq!(answer, case.answer());
-            sizes.push(recorded(&case, &answer).unwrap().len());
+            let bytes = recorded(&case, &answer).unwrap().len();
+            sizes.push((bytes, bytes - 4 * answer.row_arrays().len()));
         }
         sizes
     }
@@ -156,9 +167,14 @@ mod tests {
         let all = sizes(&Choice::default());
         let every = sizes(&Choice { every: 7, most: usize::MAX });
         assert_eq!(every, all.iter().copied().step_by(7).collect::<Vec<_>>());
-        let small = sizes(&Choice { every: 1, most: 500 });
-        assert_eq!(small, all.iter().copied().filter(|&size| size <= 500).collect::<Vec<_>>());
-        assert!(0 < small.len() && small.len() < 30);
+        // The most that is taken is what just one of them has, without the ends of its rows.
+        for (bytes, most) in all.clone() {
+            let small = sizes(&Choice { every: 1, most });
+            let taken = all.iter().copied().filter(|&(_, counted)| counted <= most);
+            assert_eq!(small, taken.collect::<Vec<_>>());
+            assert!(small.contains(&(bytes, most)) && bytes >= most);
+        }
+        assert!(all.iter().any(|(bytes, counted)| bytes > counted));
     }
 
     /// What comes of recording with a model whose answers `change` changes, and how many bytes.
@@ -178,7 +194,7 @@ mod tests {
         let (whole, all) = changed(&VALID, |_, _| ());
         assert_eq!(whole.unwrap().both, 30);
         let seventh = cases(&VALID).nth(7).unwrap();
-        let before: usize = sizes(&Choice::default())[..7].iter().sum();
+        let before: usize = sizes(&Choice::default())[..7].iter().map(|(bytes, _)| bytes).sum();
         let changes: [fn(&mut Answer); 4] = [
             |answer| answer.words[3] += 1,
             |answer| answer.rows[3] += 1,

@@ -1,6 +1,7 @@
 //! The self-check: model and original side by side, on every kind of case.
 use crate::batch::{Answer, Case};
 use crate::compare::{describe, SHOWN};
+use crate::ends;
 use crate::examples;
 use crate::gen::{self, Kind, Wish};
 use crate::judge::difference;
@@ -25,12 +26,17 @@ const PLAN: [(Kind, Option<usize>); 8] = [
 /// The refusals that the original gives too; each must be met.
 const SHARED: std::ops::RangeInclusive<u32> = 10..=29;
 
+/// In an answer of so many rows at most, each row's end is held to the refusal where it is lacking.
+const MOST_TRIED: usize = 200;
+
 #[derive(Default)]
 struct Tally {
     compared: usize,
     skipped: usize,
     differing: usize,
     before: [usize; 3],
+    /// The rows whose end was held to a refusal.
+    tried: usize,
     refusals: BTreeMap<u32, usize>,
     kinds: BTreeMap<u32, usize>,
     missing: Missing,
@@ -39,8 +45,9 @@ struct Tally {
 /// Compares everything with the given seed; true if nothing differs and everything was met.
 pub fn run(seed: u64) -> io::Result<bool> {
     let mut all = Tally::default();
-    for example in examples::all()?.into_iter().chain(examples::modes()?) {
+    for example in [examples::all()?, examples::modes()?, examples::ends()?].concat() {
         all.note(&example.case, examples::check(&example));
+        all.try_ends(&example.case, &example.case.answer());
     }
     all.section("examples");
     for mode in [Mode::Old, Mode::Strict] {
@@ -60,6 +67,18 @@ impl Tally {
         let answer = case.answer();
         self.count(case, &answer);
         self.note(case, difference(case, &answer));
+        self.try_ends(case, &answer);
+    }
+
+    /// Holds the ends of an answer's rows to the refusals of the same case without them.
+    fn try_ends(&mut self, case: &Case, answer: &Answer) {
+        let rows = answer.rows.len() / ROW;
+        if rows <= MOST_TRIED {
+            self.tried += rows;
+            if let Some(what) = ends::unlike_refusals(case, answer) {
+                self.note(case, Some(Err(what)));
+            }
+        }
     }
 
     /// Counts a verdict and prints the first that differ.
@@ -106,6 +125,7 @@ impl Tally {
         println!("answers by number: {}", list(&self.refusals));
         println!("wrong signs by form: {}", self.missing);
         println!("rows by kind: {}", list(&self.kinds));
+        println!("ends held to the refusal without the row: {}", self.tried);
         let answers = SHARED.chain([0]).all(|n| self.refusals.contains_key(&n));
         let rows = kinds::ALL.iter().all(|kind| self.kinds.contains_key(kind));
         let met = answers && rows && self.missing.has_all();

@@ -1,6 +1,6 @@
 //! Trees of rows for people: one line, or a line a row.
 use crate::kinds::*;
-use crate::model::{Row, CHILDREN, NEXT};
+use crate::model::{Row, CHILDREN, END, NEXT};
 use crate::original::UNKNOWN;
 
 /// The references of one child slot: the child and those behind it by next words.
@@ -57,7 +57,7 @@ pub fn lines(rows: &[Row], reference: u32, depth: usize, name: &str) -> String {
     text
 }
 
-/// A row's kind, mark, flags and place in words.
+/// A row's kind, mark, flags, place and end in words.
 fn label(row: &Row) -> String {
     let mut text = word(row[0]).to_string();
     let mark = row[1] % GROUPED;
@@ -74,6 +74,9 @@ fn label(row: &Row) -> String {
     text += if row[1] >= GROUPED { " grouped" } else { "" };
     if row[2] != UNKNOWN {
         text += &format!(" at {}", row[2]);
+    }
+    if row[END] != UNKNOWN {
+        text += &format!(" to {}", row[END]);
     }
     text
 }

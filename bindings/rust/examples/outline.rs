@@ -15,7 +15,7 @@ use std::process::ExitCode;
 /// The buffers of the program `outline`: the longest file and a byte more, its tokens, its rows.
 const BYTES: u64 = 60_001;
 const TOKENS: usize = 20_000;
-const ROWS: usize = 2_000;
+const ROWS: usize = 1_800;
 
 /// What was read: a tree, or a refusal.
 type Script<'a> = Result<Tree<'a>, Refusal>;

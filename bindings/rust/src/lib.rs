@@ -4,9 +4,10 @@
 //! token is a word ([`Token`]), with EOF last and nowhere else. The tree is laid out in a pool of
 //! words that the caller lends, [`ROW_WORDS`] to a row; reading allocates nothing. After a refusal every
 //! word of the pool is zero. No input makes these functions panic. A [`Mode`] says by which rules is
-//! read: the original's, or strict ones. A tree, also one that was changed, goes back to tokens by
-//! [`Tree::to_tokens`], [`check()`] and [`write()`]. A [`TokenFile`] has the tokens with their names
-//! and texts.
+//! read: the original's, or strict ones. [`Node::place`] is that of the token which a node stands for,
+//! and [`Node::end`] says where its piece of the script ends. A tree, also one that was changed, goes
+//! back to tokens by [`Tree::to_tokens`], [`check()`] and [`write()`]. A [`TokenFile`] has the tokens
+//! with their names and texts.
 //!
 //! ```
 //! use shigthapul::{whole_script, Infix, Kind, Mode, Symbol, Token, TOKEN_WORDS};

@@ -1,7 +1,7 @@
 //! The sizes of rows and pools; the bench has them from here too.
 
-/// How many words of the pool a row takes.
-pub const ROW_WORDS: usize = 8;
+/// How many words of the pool a row takes: kind, mark, place, four children, next and end.
+pub const ROW_WORDS: usize = 9;
 
 /// The most rows of a pool; words behind them are only zeroed.
 pub const MOST_ROWS: usize = 65_535;

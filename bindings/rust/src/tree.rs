@@ -18,9 +18,10 @@ const RAW: u32 = 1;
 /// ```
 /// use shigthapul::{Kind, Row, ROW_WORDS};
 ///
-/// let row = Row::from_words([12, 0, 1, 1, 4, 0, 0, 0]).unwrap();
+/// let row = Row::from_words([12, 0, 1, 1, 4, 0, 0, 0, 4]).unwrap();
 /// assert_eq!((row.kind, row.place, row.children), (Kind::Infix, 1, [1, 4, 0, 0]));
-/// assert_eq!(row.words(), [12, 0, 1, 1, 4, 0, 0, 0]);
+/// assert_eq!(row.end, 4);
+/// assert_eq!(row.words(), [12, 0, 1, 1, 4, 0, 0, 0, 4]);
 /// assert_eq!(Row::from_words([0; ROW_WORDS]), None);
 /// ```
 #[derive(Clone, Copy, Debug, PartialEq, Eq, Hash)]
@@ -35,12 +36,15 @@ pub struct Row {
     pub children: [u32; 4],
     /// The reference of the next row in a list.
     pub next: u32,
+    /// The place of the last token of the piece that the row stands for, as [`Node::end`] has it. The
+    /// check and the writer don't look at it.
+    pub end: u32,
 }
 
 impl Row {
-    /// A row of a kind at a place, with no mark, no children and no next.
+    /// A row of a kind at a place, with no mark, no children and no next, and with end 0.
     pub fn new(kind: Kind, place: u32) -> Row {
-        Row { kind, mark: 0, place, children: [0; 4], next: 0 }
+        Row { kind, mark: 0, place, children: [0; 4], next: 0, end: 0 }
     }
 
     /// The row of a reference in a pool; none where the pool has no such row, or it is of no kind.
@@ -72,15 +76,15 @@ impl Row {
 
     /// The row of its words; none where the first is no kind.
     pub fn from_words(words: [u32; ROW_WORDS]) -> Option<Row> {
-        let [kind, mark, place, c0, c1, c2, c3, next] = words;
+        let [kind, mark, place, c0, c1, c2, c3, next, end] = words;
         let kind = Kind::from_number(kind)?;
-        Some(Row { kind, mark, place, children: [c0, c1, c2, c3], next })
+        Some(Row { kind, mark, place, children: [c0, c1, c2, c3], next, end })
     }
 
     /// The words of the row.
     pub fn words(self) -> [u32; ROW_WORDS] {
         let [c0, c1, c2, c3] = self.children;
-        [self.kind.number(), self.mark, self.place, c0, c1, c2, c3, self.next]
+        [self.kind.number(), self.mark, self.place, c0, c1, c2, c3, self.next, self.end]
     }
 }
 
@@ -238,6 +242,27 @@ impl<'a> Node<'a> {
     /// The place of the token that the node stands for.
     pub fn place(self) -> usize {
         self.row.place as usize
+    }
+
+    /// The place of the last token of the piece that the node stands for: of the token that was the
+    /// current one when its row was built.
+    ///
+    /// A semicolon that was eaten belongs to the piece; the brackets around it don't. The guide,
+    /// `docs/GUIDE.md`, says by kind where a piece ends.
+    ///
+    /// ```
+    /// use shigthapul::{one_statement, Mode, ROW_WORDS};
+    ///
+    /// // `( a + b ) ;` and EOF
+    /// let tokens = [0x0805, 0x0700, 0x0801, 0x0700, 0x0806, 0x080B, 0x0200];
+    /// let mut pool = [0; 10 * ROW_WORDS];
+    /// let statement = one_statement(&tokens, &mut pool, 0, Mode::Strict).unwrap().root().unwrap();
+    /// assert_eq!((statement.place(), statement.end()), (0, 5));
+    /// let sum = statement.child(0).unwrap();
+    /// assert_eq!((sum.place(), sum.end()), (2, 3));
+    /// ```
+    pub fn end(self) -> usize {
+        self.row.end as usize
     }
 
     /// The child of a slot, 0 to 3, or the first where the slot has a list. [`Kind`] says which

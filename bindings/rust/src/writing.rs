@@ -13,8 +13,8 @@ use crate::{raw, Node, Refusal, Tokens, Tree, Walk, MOST_ROWS, ROW_TOKENS, ROW_W
 /// - the root is an expression, a statement or a block.
 ///
 /// Otherwise the reason is [`Reason::NoTree`](crate::Reason::NoTree), at the reference of the first bad
-/// row, or at 0 where the pool has no such root. Rows that are not reached, and places, are not looked
-/// at.
+/// row, or at 0 where the pool has no such root. Rows that are not reached, places and ends are not
+/// looked at.
 ///
 /// ```
 /// use shigthapul::{check, Infix, Kind, Reason, Row, ROW_WORDS};

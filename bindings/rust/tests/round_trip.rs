@@ -1,4 +1,4 @@
-//! What is read, written and read again is the same tree, but for places and grouped marks; in both modes.
+//! What is read, written and read again is the same tree, but for places, ends and grouped marks; in both modes.
 mod common;
 use common::{enough, read, repository, text_of, words, DIRT};
 use shigthapul::{check, read_file, whole_script};
@@ -17,7 +17,7 @@ fn entry(root: Kind) -> &'static str {
 /// The rows of a tree without what needn't come back.
 fn plain(tree: Tree) -> Vec<Row> {
     let rows = tree.nodes().map(|node| node.row());
-    rows.map(|row| Row { mark: row.mark % GROUPED, place: 0, ..row }).collect()
+    rows.map(|row| Row { mark: row.mark % GROUPED, place: 0, end: 0, ..row }).collect()
 }
 
 /// Writes a tree that was read from tokens, and reads what was written in both modes. Each payload must be of the class

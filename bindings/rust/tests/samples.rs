@@ -8,7 +8,7 @@ use std::path::Path;
 
 /// The buffers of the program `outline`.
 const TOKENS: usize = 20_000;
-const ROWS: usize = 2_000;
+const ROWS: usize = 1_800;
 
 /// The lines of a token file, read in a mode.
 fn lines(file: &[u8], mode: Mode) -> String {

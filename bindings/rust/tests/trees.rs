@@ -48,6 +48,16 @@ fn children_and_lists() {
 }
 
 #[test]
+fn places_and_ends() {
+    with_tree("S", "x = ( a + b ) * c ;", |tree| {
+        let spans: Vec<_> = tree.nodes().map(|node| (node.place(), node.end())).collect();
+        assert_eq!(spans, [(0, 0), (3, 3), (5, 5), (4, 5), (8, 8), (7, 9), (1, 9), (0, 9)]);
+        let root = tree.root().unwrap();
+        assert_eq!((root.row().end, root.row().words()[ROW_WORDS - 1]), (9, 9));
+    });
+}
+
+#[test]
 fn nodes_of_a_kind() {
     with_tree("W", "f ( a , 1 ) ; var x = g ( b ) ;", |tree| {
         let calls: Vec<usize> = tree.of_kind(Kind::Call).map(|call| call.place()).collect();

@@ -21,6 +21,10 @@ fn the_table_of_the_oracle() {
     }
 }
 
+/// The heads of tables whose third column has answers, and of those where it has the ends of rows.
+const HEAD: &str = "| Entry | Tokens | ";
+const HEAD_OF_ENDS: &str = "| Entry | Tokens | Ends |";
+
 /// A line of a table: the entry, the mode, the rows if they are few, the tokens, and the answer.
 struct Line<'a> {
     entry: &'a str,
@@ -41,6 +45,7 @@ fn line_of(text: &str) -> Option<Line<'_>> {
     let (entry, rows) = head.split_once(", ").unwrap_or((head, ""));
     let rows = rows.split(' ').next().and_then(|count| count.parse().ok());
     let tokens = words(tokens.strip_prefix('`')?.strip_suffix('`')?);
+    let answer = answer.trim_end_matches(" |");
     ["X", "S", "W"].contains(&entry).then(|| Line { entry, mode, rows, tokens, answer })
 }
 
@@ -70,13 +75,35 @@ fn compare(line: &Line, text: &str) {
     }
 }
 
+/// Compares the ends of the rows with those that a line says.
+fn compare_ends(line: &Line, text: &str) {
+    let mut pool = vec![0; ROW_WORDS * enough(&line.tokens)];
+    let tree = read(line.entry, &line.tokens, &mut pool, line.mode).expect(text);
+    let ends: Vec<String> = tree.nodes().map(|node| node.end().to_string()).collect();
+    assert_eq!(ends.join(" "), line.answer, "{}", text);
+}
+
 #[test]
 fn the_tables_of_the_differences() {
     let page = text_of("docs/DIFFERENCES.md");
-    let lines: Vec<_> = page.lines().filter_map(|text| Some((line_of(text)?, text))).collect();
-    let strict = lines.iter().filter(|(line, _)| line.mode == Mode::Strict).count();
-    assert!(lines.len() >= 200 && strict >= 20, "{} examples, {} strict", lines.len(), strict);
-    for (line, text) in lines {
-        compare(&line, text);
+    let (mut answers, mut strict, mut ends, mut is_of_ends) = (0, 0, 0, false);
+    for text in page.lines() {
+        if text.starts_with(HEAD) {
+            is_of_ends = text.starts_with(HEAD_OF_ENDS);
+        }
+        match line_of(text) {
+            Some(line) if is_of_ends => {
+                compare_ends(&line, text);
+                ends += 1;
+            }
+            Some(line) => {
+                compare(&line, text);
+                answers += 1;
+                strict += usize::from(line.mode == Mode::Strict);
+            }
+            None => {}
+        }
     }
+    assert!(answers >= 200 && strict >= 20, "{} examples, {} strict", answers, strict);
+    assert!(ends >= 19, "{} examples of ends", ends);
 }

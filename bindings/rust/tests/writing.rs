@@ -44,8 +44,17 @@ fn written(by: Write, pool: &[u32], root: u32, room: (usize, usize)) -> Answer {
     answer.map(|_| (words, places))
 }
 
-/// Checks and writes a tree in every way; all must agree.
+/// Checks and writes a tree in every way, as it is and with other ends in its rows; all must agree.
 fn answer(pool: &[u32], root: u32) -> Answer {
+    let mut other = pool.to_vec();
+    other.chunks_exact_mut(ROW_WORDS).for_each(|row| row[ROW_WORDS - 1] = !row[ROW_WORDS - 1]);
+    let answer = in_every_way(pool, root);
+    assert_eq!(in_every_way(&other, root), answer);
+    answer
+}
+
+/// Checks and writes a tree in every way.
+fn in_every_way(pool: &[u32], root: u32) -> Answer {
     let plenty = ROW_TOKENS * (pool.len() / ROW_WORDS);
     let answer = written(write, pool, root, (plenty, plenty + 1));
     assert_eq!(written(write_small, pool, root, (plenty, plenty + 1)), answer);

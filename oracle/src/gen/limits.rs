@@ -1,4 +1,5 @@
 //! Arrays at and beyond the limits: faulty words, EOF out of place, lengths, starts, and pools.
+use super::lengths::{self, EIGHTHS};
 use super::rng::Rng;
 use crate::batch::Case;
 use crate::model::{Entry, MOST_ROWS, ROW};
@@ -14,7 +15,7 @@ pub fn fixed() -> Vec<Case> {
         let mut add = |start: usize, pool: usize, tokens: &[u16]| {
             cases.push(Case::old(entry, start, pool, tokens.to_vec()));
         };
-        for pool in 0..=2 * ROW + 1 {
+        for pool in (0..=2 * EIGHTHS + 1).map(lengths::words) {
             add(0, pool, &[EOF]);
             add(0, pool, &[IDENTIFIER, EOF]);
             add(0, pool, &[EMPTY, EOF]);

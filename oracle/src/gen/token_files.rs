@@ -2,7 +2,7 @@
 //! and ones at the limits.
 use super::rng::Rng;
 use super::{chains, damage, grammar, limits, nesting, payloads};
-use crate::files::{examples, field, tagged, CHARACTER, HEAD, MOST_BYTES, TEXTS};
+use crate::files::{examples, field, tagged, CHARACTER, HEAD, MOST_BYTES, MOST_ROWS, TEXTS};
 use crate::model::Entry;
 use crate::words::{self, *};
 
@@ -48,11 +48,20 @@ fn fixed() -> Vec<Vec<u8>> {
     for count in [19_998, 19_999, 20_000] {
         files.push(plain(&[vec![EMPTY; count], vec![EOF]].concat()));
     }
-    for count in [665, 666, 667, 998, 999, 1000, 1999, 2000, 2001] {
+    for count in [MOST_ROWS / 3, MOST_ROWS / 2 - 1, MOST_ROWS].into_iter().flat_map(around) {
         files.push(plain(&[vec![IDENTIFIER; count], vec![EOF]].concat()));
         files.push(plain(&[[IDENTIFIER, PLUS].repeat(count), vec![IDENTIFIER, EOF]].concat()));
     }
+    // A row for each statement, and one for the script.
+    for count in around(MOST_ROWS - 1) {
+        files.push(plain(&[[BREAK, SEMICOLON].repeat(count), vec![EOF]].concat()));
+    }
     files
+}
+
+/// A number, the one before it, and the one behind it.
+fn around(number: usize) -> [usize; 3] {
+    [number - 1, number, number + 1]
 }
 
 struct Maker {

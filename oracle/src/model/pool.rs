@@ -1,5 +1,5 @@
 //! The pool of rows: taking the lowest free row, linking a list, marking a row.
-use super::{CHILDREN, MOST_ROWS, NEXT, ROW};
+use super::{CHILDREN, END, MOST_ROWS, NEXT, ROW};
 
 const MARK: usize = 1;
 
@@ -19,14 +19,16 @@ impl<'a> Pool<'a> {
         self.used
     }
 
-    /// Takes the lowest free row and gives its reference, or None if all are taken.
-    pub fn build(&mut self, kind: u32, mark: u32, place: u32, children: &[u32]) -> Option<u32> {
+    /// Takes the lowest free row and gives its reference, or None if all are taken. The head is kind,
+    /// mark and place.
+    pub fn build(&mut self, head: [u32; 3], children: &[u32], end: u32) -> Option<u32> {
         if self.used == self.rows {
             return None;
         }
         let row = &mut self.words[self.used * ROW..][..ROW];
-        row[..3].copy_from_slice(&[kind, mark, place]);
+        row[..CHILDREN.start].copy_from_slice(&head);
         row[CHILDREN][..children.len()].copy_from_slice(children);
+        row[END] = end;
         self.used += 1;
         Some(self.used as u32)
     }

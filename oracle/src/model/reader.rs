@@ -92,8 +92,9 @@ impl<'a> Reader<'a> {
         Ok(reference)
     }
 
+    /// Builds a row, which ends at the current token; without one left that is the refusal's place.
     pub fn build(&mut self, kind: u32, mark: u32, place: u32, children: &[u32]) -> Read<u32> {
-        match self.pool.build(kind, mark, place, children) {
+        match self.pool.build([kind, mark, place], children, self.place()) {
             Some(reference) => Ok(reference),
             None => self.refuse(NO_ROW),
         }

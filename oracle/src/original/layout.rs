@@ -1,7 +1,7 @@
 //! Lays the original's tree out in rows: parts before wholes, children in the order of 01.
 use super::UNKNOWN;
 use crate::kinds;
-use crate::model::{Row, CHILDREN, NEXT, ROW};
+use crate::model::{Row, CHILDREN, END, NEXT, ROW};
 use crate::parser::ast::{
     BlockStatement, CallType, ExpressionKind, ForEachType, IfElseType, LiteralKind, StatementKind,
     TryCatchType,
@@ -20,8 +20,9 @@ fn spelt(payload: &str) -> u32 {
 impl Layout {
     fn row(&mut self, kind: u32, mark: u32, place: u32, children: &[u32]) -> u32 {
         let mut row = [0; ROW];
-        row[..3].copy_from_slice(&[kind, mark, place]);
+        row[..CHILDREN.start].copy_from_slice(&[kind, mark, place]);
         row[CHILDREN][..children.len()].copy_from_slice(children);
+        row[END] = UNKNOWN;
         self.rows.push(row);
         self.rows.len() as u32
     }

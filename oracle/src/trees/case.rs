@@ -19,7 +19,7 @@ const MOST_ROOM: usize = 131_072;
 impl Case {
     /// A question whose slices are longer than any written form, if that may be.
     pub fn roomy(pool: Vec<u32>, root: usize) -> Case {
-        let room = longest(pool.len()).min(MOST_ROOM);
+        let room = longest(Pool(&pool).rows()).min(MOST_ROOM);
         Case { pool, root, words: room, places: room }
     }
 
@@ -41,10 +41,9 @@ impl Case {
     }
 }
 
-/// More tokens than a pool of so many words can be written as: no row has more than nine of its
-/// own.
-fn longest(words: usize) -> usize {
-    words + words / 4 + 2
+/// More tokens than a pool of so many rows can be written as: no row has more than nine of its own.
+fn longest(rows: usize) -> usize {
+    10 * rows + 2
 }
 
 impl fmt::Display for Case {
@@ -65,7 +64,7 @@ impl fmt::Display for Case {
     }
 }
 
-/// A row's words, zeros at its end left out.
+/// A row's words, zeros behind the last other one left out.
 fn row(words: &[u32]) -> String {
     let used = words.iter().rposition(|&word| word != 0).map_or(1, |last| last + 1);
     let words: Vec<String> = words[..used].iter().map(u32::to_string).collect();

@@ -17,7 +17,8 @@ pub const USAGE: &str = "
   trees-forms --mode old|strict   what the records on standard input have written, as a batch
   trees-selfcheck [--seed N] every kind of them in every way that the model has, and the round trip
   trees-show ROOT ROWS       what the check and the writer answer, for people
-      (a row's words with blanks between, zeros at its end left out, a stroke between rows)";
+      (a row's words with blanks between, but for zeros behind the last other one; a stroke between
+      rows)";
 
 /// Runs a command; false if it found a difference, None if there is no such command.
 pub fn run(command: &str, rest: &[String]) -> Option<io::Result<bool>> {

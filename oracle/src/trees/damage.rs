@@ -2,9 +2,10 @@
 //! and pools of random words.
 use super::pool::Pool;
 use super::slots::{bare_kinds, marks};
+use crate::gen::lengths::{eighths, words, EIGHTHS};
 use crate::gen::rng::Rng;
 use crate::kinds;
-use crate::model::{NEXT, ROW};
+use crate::model::{END, NEXT, ROW};
 
 /// Changes one to three things in a pool or its root.
 pub fn damage(rng: &mut Rng, pool: &mut Vec<u32>, root: &mut usize) {
@@ -16,7 +17,10 @@ pub fn damage(rng: &mut Rng, pool: &mut Vec<u32>, root: &mut usize) {
         match rng.below(24) {
             0 => *root = self::root(rng, rows),
             1 => exchange(rng, pool, rows),
-            2 => pool.truncate(pool.len() - 1 - rng.below(ROW.min(pool.len()))),
+            2 => {
+                let length = eighths(pool.len());
+                pool.truncate(words(length - 1 - rng.below(EIGHTHS.min(length))));
+            }
             _ => change(rng, pool, rows),
         }
     }
@@ -90,14 +94,27 @@ fn any_reference(rng: &mut Rng, row: usize, rows: usize) -> u32 {
     word as u32
 }
 
+/// Puts other words into the ends of rows, which say nothing of a tree: none, small ones, or any.
+pub fn other_ends(rng: &mut Rng, pool: &mut [u32]) {
+    let which = rng.below(3);
+    for row in pool.chunks_exact_mut(ROW) {
+        let any = rng.below(1 << 32) as u32;
+        match which {
+            0 => (),
+            1 => row[END] = any % 1000,
+            _ => row[END] = rng.pick(&[any, any, 0, u32::MAX]),
+        }
+    }
+}
+
 /// A pool of up to eight rows of random words, most of which may be right; and a root.
 pub fn noise(rng: &mut Rng) -> (Vec<u32>, usize) {
     let rows = 1 + rng.below(8);
     let empty = 1 + rng.below(8);
     let mut pool = vec![0; rows * ROW];
-    for (index, word) in pool.iter_mut().enumerate() {
-        let limit = 1 + index / ROW + usize::from(rng.chance(1, 6));
-        *word = match index % ROW {
+    for (row, index) in (0..rows).flat_map(|row| (0..END).map(move |index| (row, index))) {
+        let limit = 1 + row + usize::from(rng.chance(1, 6));
+        pool[row * ROW + index] = match index {
             0 => any_kind(rng),
             1 if rng.chance(1, 8) => rng.pick(&[1, 2, 3, 22, 23, 256, 257]),
             2 => rng.below(100) as u32,

@@ -20,8 +20,8 @@ enum Expected {
     Written(Vec<u16>, Vec<u32>),
 }
 
-/// The pool of rows in the text form: words with blanks between, zeros at a row's end left out, a
-/// stroke between rows.
+/// The pool of rows in the text form: words with blanks between, zeros behind a row's last other word
+/// left out, a stroke between rows.
 pub fn read_rows(text: &str) -> Result<Vec<u32>, ParseIntError> {
     let mut pool = vec![];
     for row in text.split('/') {

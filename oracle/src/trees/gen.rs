@@ -7,9 +7,11 @@ use super::large;
 use super::layout::{lay, other_row, Order, ORDERS};
 use super::slots::Takes;
 use super::table;
+use crate::gen::lengths::{eighths, words, EIGHTHS};
 use crate::gen::rng::Rng;
 use crate::gen::{self as texts, Wish};
-use crate::model::{MOST_ROWS, ROW};
+use crate::kinds::{ARRAY, IDENTIFIER};
+use crate::model::{CHILDREN, MOST_ROWS, NEXT, ROW};
 
 #[derive(Clone, Copy, Debug, PartialEq)]
 pub enum Kind {
@@ -45,7 +47,7 @@ pub const KINDS: [(&str, Kind); 8] = [
 
 /// The cases of a kind: the first `count`, or all or 10,000.
 pub fn cases(kind: Kind, seed: u64, count: Option<usize>) -> Box<dyn Iterator<Item = Case>> {
-    let mut maker = Maker { rng: Rng::new(seed), texts: parsed(seed) };
+    let mut maker = Maker { rng: Rng::new(seed), ends: Rng::new(!seed), texts: parsed(seed) };
     match kind {
         Kind::Table => Box::new(table().take(count.unwrap_or(usize::MAX))),
         _ => {
@@ -74,6 +76,8 @@ fn parsed(seed: u64) -> Box<dyn Iterator<Item = (Vec<u32>, usize)>> {
 
 struct Maker {
     rng: Rng,
+    /// Draws the ends of rows, so that all else is the same whatever they are.
+    ends: Rng,
     texts: Box<dyn Iterator<Item = (Vec<u32>, usize)>>,
 }
 
@@ -88,7 +92,8 @@ impl Maker {
     }
 
     fn case(&mut self, kind: Kind) -> Case {
-        let (pool, root) = self.pool(kind);
+        let (mut pool, root) = self.pool(kind);
+        damage::other_ends(&mut self.ends, &mut pool);
         Case::about(&mut self.rng, pool, root)
     }
 
@@ -114,7 +119,8 @@ impl Maker {
     /// A tree in a pool of any order, with as much room as it takes.
     fn laid(&mut self, tree: &Tree) -> Case {
         let order = self.rng.pick(&ORDERS);
-        let (pool, root) = lay(&mut self.rng, tree, order, 0);
+        let (mut pool, root) = lay(&mut self.rng, tree, order, 0);
+        damage::other_ends(&mut self.ends, &mut pool);
         Case::about(&mut self.rng, pool, root)
     }
 
@@ -124,8 +130,8 @@ impl Maker {
         let size = tree.size();
         let gaps = if size < 1000 && self.rng.chance(1, 3) { 2 } else { 0 };
         let (mut pool, root) = lay(&mut self.rng, tree, order, gaps);
-        let more = if self.rng.chance(1, 3) { self.rng.below(3 * ROW) } else { 0 };
-        let (length, rows) = (pool.len() + more, pool.len() / ROW);
+        let more = if self.rng.chance(1, 3) { self.rng.below(3 * EIGHTHS) } else { 0 };
+        let (length, rows) = (pool.len() + words(more), pool.len() / ROW);
         while pool.len() < length {
             pool.extend(other_row(&mut self.rng, rows + 3));
         }
@@ -163,7 +169,7 @@ impl Maker {
             root = damage::root(&mut self.rng, pool.len() / ROW);
         }
         if self.rng.chance(1, 2) {
-            pool.truncate(self.rng.below(pool.len() + 1));
+            pool.truncate(words(self.rng.below(eighths(pool.len()) + 1)));
         }
         (pool, root)
     }
@@ -172,8 +178,8 @@ impl Maker {
 /// Short pools with each root, and the largest pools with roots and references at their end.
 fn limits() -> Vec<Case> {
     let mut cases = vec![];
-    for length in 0..=2 * ROW + 1 {
-        let pool: Vec<u32> = (0..length).map(|index| 2 * u32::from(index % ROW == 0)).collect();
+    for length in (0..=2 * EIGHTHS + 1).map(words) {
+        let pool = identifiers(length);
         for root in [0, 1, 2, 3, 65_535, 65_536, u32::MAX as usize] {
             cases.push(Case::roomy(pool.clone(), root));
         }
@@ -191,11 +197,16 @@ fn limits() -> Vec<Case> {
 /// A pool of identifiers, but that row 2 is an array of row 1 and, if `next` is one, that row
 /// behind it.
 fn at_the_end(rows: usize, root: usize, next: usize) -> Case {
-    let mut pool: Vec<u32> = (0..rows * ROW).map(|index| 2 * u32::from(index % ROW == 0)).collect();
-    pool[ROW - 1] = next as u32;
-    pool[ROW] = 8;
-    pool[ROW + 3] = 1;
+    let mut pool = identifiers(rows * ROW);
+    pool[NEXT] = next as u32;
+    pool[ROW] = ARRAY;
+    pool[ROW + CHILDREN.start] = 1;
     Case::roomy(pool, root)
+}
+
+/// A pool of so many words whose rows are identifiers.
+fn identifiers(length: usize) -> Vec<u32> {
+    (0..length).map(|index| if index % ROW == 0 { IDENTIFIER } else { 0 }).collect()
 }
 
 #[cfg(test)]

@@ -5,7 +5,7 @@ use super::slots::{is_expression, is_mark, slots, Takes};
 use crate::kinds::*;
 use crate::model::Entry;
 
-/// A tree.
+/// A tree, without the ends of its rows, which say nothing of it.
 #[derive(Clone, Debug, Default)]
 pub struct Tree {
     pub kind: u32,
@@ -89,7 +89,7 @@ impl Tree {
         1 + self.parts().map(Tree::size).sum::<usize>()
     }
 
-    /// Whether another is the same but for places and brackets.
+    /// Whether another is the same but for places, ends and brackets.
     pub fn is_same(&self, other: &Tree) -> bool {
         let pairs = || self.slots.iter().zip(&other.slots);
         self.kind == other.kind

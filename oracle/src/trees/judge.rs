@@ -136,8 +136,9 @@ fn ask_original(tree: &Tree, read: &batch::Case, answer: &Answer) -> Result<(), 
 #[cfg(test)]
 mod tests {
     use super::*;
-    use crate::model::ROW;
+    use crate::model::{END, ROW};
     use crate::trees::examples::pool_of;
+    use crate::trees::gen::{cases, KINDS};
 
     const SUM: &str = "2 0 0/2 0 2/2 0 4/12 2 3 2 3/12 0 1 1 4/38 0 0 5/46 0 0 6";
 
@@ -155,10 +156,28 @@ mod tests {
         let pool = pool_of(SUM);
         let tree = held::tree(Pool(&pool), 7).unwrap();
         assert!(is_same(&tree, &pool, 7));
-        for index in (0..pool.len()).filter(|index| index % ROW != 2) {
+        for index in 0..pool.len() {
             let mut other = pool.clone();
             other[index] ^= 1;
-            assert!(!is_same(&tree, &other, 7), "word {}", index);
+            let says_nothing = [2, END].contains(&(index % ROW));
+            assert_eq!(is_same(&tree, &other, 7), says_nothing, "word {}", index);
+        }
+    }
+
+    /// All that comes of a case.
+    fn outcome(case: &Case) -> (u32, usize, Vec<Fault>, Option<(Written, [u32; 4])>) {
+        let Judged { number, place, faults, form } = judge(case).unwrap();
+        (number, place, faults, form.map(|form| (form.written, form.back)))
+    }
+
+    #[test]
+    fn another_end_changes_no_answer() {
+        for (_, kind) in KINDS.into_iter().filter(|(name, _)| *name != "large") {
+            for case in cases(kind, 5, Some(300)).filter(|case| case.pool.len() < 300 * ROW) {
+                let mut other = case.clone();
+                other.pool.chunks_exact_mut(ROW).for_each(|row| row[END] = !row[END]);
+                assert_eq!(outcome(&case), outcome(&other), "{}", case);
+            }
         }
     }
 

@@ -3,7 +3,7 @@
 use super::held::Tree;
 use super::slots::bare_kinds;
 use crate::gen::rng::Rng;
-use crate::model::{CHILDREN, NEXT, ROW};
+use crate::model::{CHILDREN, END, NEXT, ROW};
 use std::collections::BinaryHeap;
 
 /// Which of the rows that may come next does: the one that a reader would build, the one that is
@@ -109,7 +109,7 @@ pub fn other_row(rng: &mut Rng, rows: usize) -> [u32; ROW] {
         return row;
     }
     row[..3].copy_from_slice(&[rng.below(48) as u32, rng.pick(&[0, 0, 1, 256]), 0]);
-    for word in &mut row[CHILDREN.start..] {
+    for word in &mut row[CHILDREN.start..END] {
         *word = if rng.chance(1, 2) { 0 } else { rng.below(rows + 2) as u32 };
     }
     row
@@ -118,6 +118,7 @@ pub fn other_row(rng: &mut Rng, rows: usize) -> [u32; ROW] {
 #[cfg(test)]
 mod tests {
     use super::*;
+    use crate::trees::examples::pool_of;
     use crate::trees::grow::Grower;
     use crate::trees::held;
     use crate::trees::pool::Pool;
@@ -145,7 +146,6 @@ mod tests {
         tree.slots[0] = vec![leaf(), leaf(), leaf()];
         let (pool, root) = lay(&mut Rng::new(1), &tree, Order::OwnersFirst, 0);
         assert_eq!(root, 2);
-        assert_eq!(pool[..ROW], [3, 0, 0, 0, 0, 0, 0, 3]);
-        assert_eq!(pool[ROW..2 * ROW], [8, 0, 0, 1, 0, 0, 0, 0]);
+        assert_eq!(pool[..2 * ROW], pool_of("3 0 0 0 0 0 0 3/8 0 0 1"));
     }
 }

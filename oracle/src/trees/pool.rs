@@ -1,7 +1,7 @@
 //! A lent pool, read by references.
 use crate::model::{CHILDREN, MOST_ROWS, NEXT, ROW};
 
-/// The words of a pool, whatever they are.
+/// The words of a pool, whatever they are. The ends of its rows are never looked at.
 #[derive(Clone, Copy)]
 pub struct Pool<'a>(pub &'a [u32]);
 

@@ -23,7 +23,7 @@ pub fn record(
             Err(what) => return Ok(Err(format!("case {} differs: {}\n  {}", number, case, what))),
         };
         let bytes = recorded(&case, &judged);
-        if bytes.len() <= choice.most {
+        if choice.takes(bytes.len(), case.pool.len()) {
             tally.count(&judged);
             to.write_all(&bytes)?;
         }
@@ -105,12 +105,13 @@ mod tests {
 
     #[test]
     fn a_record_has_all_that_is_to_be_compared() {
-        let bytes = of("2 0 5/13 2 0 1", 2, 9);
+        let bytes = of("2 0 5 0 0 0 0 0 7/13 2 0 1", 2, 9);
         let (head, rest) = taken(&bytes);
-        assert_eq!(head, [2, 16, 9, head[3], 0, 5, 0]);
-        assert_eq!(batch::fulls(&rest[..64]), pool_of("2 0 5/13 2 0 1"));
-        assert_eq!(batch::halves(&rest[64..74]), [0x805, 0x80E, 0x700, 0x806, 0x200]);
-        assert_eq!(batch::fulls(&rest[74..]), [0, 0, 5, 0, 0]);
+        assert_eq!(head, [2, 2 * ROW as u32, 9, head[3], 0, 5, 0]);
+        let (pool, rest) = rest.split_at(4 * 2 * ROW);
+        assert_eq!(batch::fulls(pool), pool_of("2 0 5 0 0 0 0 0 7/13 2 0 1"));
+        assert_eq!(batch::halves(&rest[..10]), [0x805, 0x80E, 0x700, 0x806, 0x200]);
+        assert_eq!(batch::fulls(&rest[10..]), [0, 0, 5, 0, 0]);
     }
 
     #[test]
@@ -118,7 +119,7 @@ mod tests {
         for (rows, number, place) in [("2 0 5/13 2 0 1", 32, 0), ("2/2 0 0 1", 38, 2)] {
             let bytes = of(rows, 2, 4);
             let (head, rest) = taken(&bytes);
-            assert_eq!((&head[NUMBER..], rest.len()), (&[number, place, 0][..], 64));
+            assert_eq!((&head[NUMBER..], rest.len()), (&[number, place, 0][..], 4 * 2 * ROW));
         }
     }
 
@@ -130,9 +131,11 @@ mod tests {
             record(cases(), &mut bytes, choice).unwrap().unwrap();
             bytes.len()
         };
-        let size = |rows: usize| 4 * HEAD + 32 * rows + 2 * (2 + 4);
+        let size = |rows: usize| 4 * HEAD + 4 * ROW * rows + 2 * (2 + 4);
         assert_eq!(written(&Choice { every: 4, most: usize::MAX }), size(1) + size(5) + size(9));
-        assert_eq!(written(&Choice { every: 1, most: size(2) }), size(1) + size(2));
+        let without_ends = |rows: usize| size(rows) - 4 * rows;
+        assert_eq!(written(&Choice { every: 1, most: without_ends(2) }), size(1) + size(2));
+        assert_eq!(written(&Choice { every: 1, most: without_ends(2) - 1 }), size(1));
     }
 
     #[test]
