@@ -4,9 +4,9 @@
    hover            reads in the old mode
    hover --strict   reads in strict mode
 
-   A formula is a row of an expression. Its last token is the row's end, and its first token the lowest place among the row
-   and all rows below it. So the brackets of a group are not part of a formula, as the row knows only that it is grouped; nor
-   are the words thread and async before a call.
+   A formula is a row of an expression. Its last token is the row's end. Its first token is the row's own, or that of the
+   part to its left, with the brackets around that part. The brackets around the formula itself are not part of it, as its
+   row knows only that it is grouped; nor are the words thread and async before a call.
 
    The status is 0 where the script is accepted, 1 where it is refused, 2 where the command is wrong. */
 #include <inttypes.h>
@@ -41,16 +41,37 @@ static bool is_formula(uint32_t kind) {
     return kind >= SHIGTHAPUL_KIND_NONE && kind <= SHIGTHAPUL_KIND_ATTRIBUTE;
 }
 
-/* Finds the first token of each row. Children stand before their parents, so theirs are known; and each row is in one list,
-   so that all lists together are no longer than the pool. */
+/* Whether a row has a part to the left of its own token: an index, a call, an infix or a suffix form. */
+static bool has_left(uint32_t kind) {
+    return kind == SHIGTHAPUL_KIND_INDEX || kind == SHIGTHAPUL_KIND_CALL || kind == SHIGTHAPUL_KIND_INFIX
+           || kind == SHIGTHAPUL_KIND_SUFFIX;
+}
+
+static bool is_sign(uint32_t place, unsigned symbol) {
+    return tokens[place] == shigthapul_word(SHIGTHAPUL_CLASS_OPERATOR, symbol);
+}
+
+/* The first token of a part with the brackets around it, from its own first token: as many open before it as close behind
+   its end, up to the token of the row that it is a part of. */
+static uint32_t opening(uint32_t at, uint32_t end, uint32_t sign) {
+    uint32_t open = 0;
+    for (uint32_t place = end + 1; place < sign; place++)
+        open += is_sign(place, SHIGTHAPUL_SRparen);
+    while (open > 0 && at > 0)
+        open -= is_sign(--at, SHIGTHAPUL_SLParen);
+    return at;
+}
+
+/* Finds the first token of each row. Children stand before their parents, so theirs are known. No token is looked at twice as
+   a bracket that closes, or twice as one that opens. */
 static void find_firsts(uint32_t rows) {
     for (uint32_t reference = 1; reference <= rows; reference++) {
         struct shigthapul_row row = shigthapul_row_at(pool, reference);
         first[reference] = row.place;
-        for (int slot = 0; slot < SHIGTHAPUL_CHILDREN; slot++)
-            for (uint32_t part = row.children[slot]; part != 0; part = shigthapul_row_at(pool, part).next)
-                if (first[part] < first[reference])
-                    first[reference] = first[part];
+        if (!has_left(row.kind))
+            continue;
+        uint32_t left = row.children[0];
+        first[reference] = opening(first[left], shigthapul_row_at(pool, left).end, row.place);
     }
 }
 

@@ -134,8 +134,9 @@ impl Tree<'_> {
 mod tests {
     use super::*;
     use crate::examples;
-    use crate::gen::{cases, Kind, Rows, Wish};
+    use crate::gen::{cases, enough, Kind, Rows, Wish};
     use crate::model::Mode;
+    use crate::text;
     use std::collections::BTreeSet;
 
     /// The accepted cases of every kind of arrays that are read to some length, with their answers.
@@ -200,31 +201,41 @@ mod tests {
         assert_eq!(first_bad(&[(3, 6), (4, 10)]), Some(1));
     }
 
+    /// Other ends for rows of a text, by reference; each rule of a kind alone can tell that some are wrong.
+    type Wrong = (Entry, &'static str, &'static [(usize, u32)]);
+
+    const WRONG: [Wrong; 18] = [
+        (Entry::Statement, "a ;", &[(1, 1)]),
+        (Entry::Statement, "a ;", &[(2, 2)]),
+        (Entry::Statement, "a . b . c ;", &[(4, 2)]),
+        (Entry::Statement, "a . b . c ;", &[(4, 5)]),
+        (Entry::Script, "a ++ ; b ;", &[(2, 2), (3, 2)]),
+        (Entry::Statement, "[ a + b , c ] ;", &[(3, 4)]),
+        (Entry::Statement, "f ( a + b c ) ;", &[(4, 5)]),
+        (Entry::Statement, "[ a , b ; ] ;", &[(3, 4), (4, 4)]),
+        (Entry::Statement, "[ a , [ ] ] ;", &[(2, 5)]),
+        (Entry::Statement, "f ( a b", &[(3, 2), (4, 2)]),
+        (Entry::Statement, "f ( ) ;", &[(2, 1)]),
+        (Entry::Statement, "{ a : b , c : d ; }", &[(4, 4)]),
+        (Entry::Script, "var x ; a ;", &[(1, 1)]),
+        (Entry::Script, "var x ; a ;", &[(1, 3)]),
+        (Entry::Statement, "if ( a ) { } else { }", &[(4, 5)]),
+        (Entry::Statement, "while ( a ) { b ; }", &[(4, 6), (5, 6)]),
+        (Entry::Script, "while ( a ) { b ; } c ;", &[(5, 8)]),
+        (Entry::Script, "a ;", &[(3, 1)]),
+    ];
+
     #[test]
-    fn an_end_that_breaks_a_law_or_its_kind_is_noticed() {
-        let example = |text: &str| {
-            let tokens = crate::text::to_words(text).unwrap().concat();
-            Case::old(Entry::Statement, 0, crate::gen::enough(&tokens), tokens)
-        };
-        for (text, reference, end) in [
-            ("a ;", 1, 1),
-            ("a ;", 2, 2),
-            ("a . b . c ;", 4, 2),
-            ("f ( a b", 3, 2),
-            ("f ( ) ;", 2, 1),
-            ("[ a , b ] ;", 3, 3),
-            ("[ a + b , c ] ;", 3, 4),
-            ("f ( a + b c ) ;", 4, 5),
-            ("{ a : b , c : d ; }", 4, 4),
-            ("var x ;", 1, 1),
-            ("var x = a b", 2, 4),
-            ("if ( a ) { } else { }", 4, 5),
-            ("while ( a ) { b ; }", 4, 6),
-        ] {
-            let (case, mut answer) = (example(text), example(text).answer());
+    fn an_end_that_does_not_fit_is_noticed() {
+        for (entry, text, changes) in WRONG {
+            let tokens = text::to_words(text).unwrap().concat();
+            let case = Case::old(entry, 0, enough(&tokens), tokens);
+            let mut answer = case.answer();
             assert_eq!(misplaced(&case, &answer), None, "{}", text);
-            answer.rows[(reference - 1) * ROW + END] = end;
-            assert!(misplaced(&case, &answer).is_some(), "{}: row {}", text, reference);
+            for &(reference, end) in changes {
+                answer.rows[(reference - 1) * ROW + END] = end;
+            }
+            assert!(misplaced(&case, &answer).is_some(), "{}: {:?}", text, changes);
         }
     }
 }

@@ -3,7 +3,7 @@
 mod common;
 use common::{answer, enough, line, words, DIRT};
 use shigthapul::{one_expression, one_statement, raw, whole_script};
-use shigthapul::{Mode, Reason, Refusal, MOST_ROWS, ROW_WORDS, TOKEN_WORDS};
+use shigthapul::{Mode, Reason, Refusal, Tree, MOST_ROWS, ROW_WORDS, TOKEN_WORDS};
 
 /// The answer of an entry with so many rows, in both modes.
 fn same_answer(entry: &str, tokens: &[u16], rows: usize) -> String {
@@ -70,6 +70,22 @@ fn start_places() {
             assert_eq!(pool, [0; 3 * ROW_WORDS + 6]);
         }
         assert_eq!(one_expression(&tokens, &mut pool, 3, mode).unwrap_err().number(), 11);
+    }
+}
+
+#[test]
+fn words_that_make_no_row() {
+    let tokens = words("a + b");
+    for left_over in 0..ROW_WORDS {
+        let mut pool = vec![DIRT; 3 * ROW_WORDS + left_over];
+        let ends = |tree: Tree| tree.nodes().map(|node| node.end()).collect::<Vec<_>>();
+        let read = one_expression(&tokens, &mut pool, 0, Mode::Old).map(ends);
+        assert_eq!(read, Ok(vec![0, 2, 2]));
+        assert!(pool[3 * ROW_WORDS..].iter().all(|&word| word == 0));
+        let mut few = vec![DIRT; 2 * ROW_WORDS + left_over];
+        let refused = Err(Refusal { reason: Reason::NoRoom, place: 2 });
+        assert_eq!(one_expression(&tokens, &mut few, 0, Mode::Old), refused);
+        assert!(few.iter().all(|&word| word == 0));
     }
 }
 

@@ -21,24 +21,35 @@ fn ends(tree: Tree) -> Vec<usize> {
     tree.nodes().map(|node| node.end()).collect()
 }
 
-/// Reads a text in a mode with rows enough; none if it is refused.
-fn with_tree<T>(entry: &str, text: &str, mode: Mode, look: impl FnOnce(Tree) -> T) -> Option<T> {
+/// Reads a text in a mode with rows enough, and looks at its tree.
+fn looked<T>(
+    entry: &str,
+    text: &str,
+    mode: Mode,
+    look: impl FnOnce(Tree) -> T,
+) -> Result<T, Refusal> {
     let tokens = words(text);
     let mut pool = vec![DIRT; ROW_WORDS * enough(&tokens)];
-    read(entry, &tokens, &mut pool, mode).ok().map(look)
+    read(entry, &tokens, &mut pool, mode).map(look)
 }
 
 #[test]
 fn the_table_of_ends() {
     let table = examples("oracle/ends.txt", 2);
     assert!(table.len() >= 50, "{} examples", table.len());
+    let mut lacking = 0;
     for (entry, text, line) in table {
-        let [old, strict] = Mode::ALL.map(|mode| with_tree(&entry, &text, mode, ends));
+        let [old, strict] = Mode::ALL.map(|mode| looked(&entry, &text, mode, ends));
         let numbers = line.strip_prefix("ends ").expect("the ends of an example").split(' ');
         let expected: Vec<usize> = numbers.map(|end| end.parse().expect("a place")).collect();
-        assert_eq!(old.as_ref(), Some(&expected), "{}", text);
-        assert!(strict == old || strict.is_none(), "{}", text);
+        assert_eq!(old.as_ref(), Ok(&expected), "{}", text);
+        lacking += strict.is_err() as usize;
+        match strict {
+            Ok(ends) => assert_eq!(ends, expected, "{}", text),
+            Err(refusal) => assert_eq!(refusal.reason, Reason::WrongSign, "{}", text),
+        }
     }
+    assert_eq!(lacking, 5);
 }
 
 /// All tables' examples that a mode accepts, with the ends of their rows.
@@ -46,7 +57,7 @@ fn accepted(mode: Mode) -> impl Iterator<Item = (String, String, Vec<usize>)> {
     let tables = [("examples", 2), ("modes", 3), ("ends", 2)];
     let all = tables.map(|(name, size)| examples(&format!("oracle/{}.txt", name), size)).concat();
     all.into_iter().filter_map(move |(entry, text, _)| {
-        let ends = with_tree(&entry, &text, mode, ends)?;
+        let ends = looked(&entry, &text, mode, ends).ok()?;
         Some((entry, text, ends))
     })
 }
@@ -77,7 +88,7 @@ fn the_laws_of_ends() {
                 tree.nodes()
                     .all(|node| node.place() <= node.end() && node.end() <= tree.last_place())
             };
-            assert_eq!(with_tree(&entry, &text, mode, lawful), Some(true), "{}", text);
+            assert_eq!(looked(&entry, &text, mode, lawful), Ok(true), "{}", text);
         }
     }
 }

@@ -112,8 +112,8 @@ module _ (words start room at left : ℕ) (ts : List ℕ) (us : Trees) (x : Run 
     rising = two-rows;
   }
 
-pub ends : PoolEnds
-ends rules ts start room us at left =
+pub pool-ends : PoolEnds
+pool-ends rules ts start room us at left =
     let (x, s, w) = of-entries rules ts start room us at left in
     (λ e words. rows-end words start room at left ts us (x e), λ e words. rows-end words start room at left ts us (s e), λ e words. rows-end words 0 room at left ts us (w e))
 

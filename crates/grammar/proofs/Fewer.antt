@@ -1,5 +1,5 @@
 -- One reading with two numbers of rows: with too few it is refused for want of the first row that is lacking, where that row would have ended.
-use Prim.Native.Nat.{ℕ, zero, suc, _+_, _≤_, _<_}
+use Prim.Native.Nat.{ℕ, zero, suc, _+_, _<_}
 use native.Mathlib.Nat.{zero-add}
 use native.Mathlib.Omega.{arith}
 use mathlib.Core.Path.{_≡_, refl, sym, ap, _∙_}
@@ -8,7 +8,7 @@ use mathlib.Core.List.{List, [], _∷_, _++_, append-assoc, append-nil}
 use lib.ListN.{length, getD, length-append, List·getD-append}
 use lib.Seq.{getD-append-add}
 use Rattle.grammar.specs.Tree.{Tree, infixed, node, Trees, nil, _▸_, join, ended, flagged}
-use Rattle.grammar.specs.Parsed.{Parsed, refused, read, Reader, _>>=_, _>>_, Check, met, failed, need, build, choose, Arm, _⇒_, match, NoRow}
+use Rattle.grammar.specs.Parsed.{Parsed, refused, read, Reader, _>>=_, _>>_, Check, met, failed, build, choose, Arm, match, NoRow}
 use Rattle.grammar.proofs.Post.{Arms, end, _▹_}
 use Rattle.grammar.proofs.Runs.{single, listed, join-nil}
 use Rattle.grammar.proofs.Spans.{Span, spans, spans-of, spans-join, spans-row, spans-flagged}
@@ -72,11 +72,6 @@ module _ {B : Type 0} (S : B → Trees) (us : Trees) (k : ℕ) where
       → ((vs : Trees) (at n m : ℕ) → Fewer S vs m (f (vs, at, n)) (g (vs, at, m))) → Fewer S us k (x >>= f) (y >>= g)
   then-longer x y f g h next = on-from listed S us k x y f g h next
 
-  pub on-need : (b : Bool) (n p : ℕ) (x y : Parsed B) → Fewer S us k x y → Fewer S us k (need b n p >> x) (need b n p >> y)
-  unfolding need _>>_
-  on-need true n p x y h = h
-  on-need false n p x y h = neither
-
   pub on-choose : (b : Bool) (x y x′ y′ : Unit {0} → Parsed B) → Fewer S us k (x tt) (x′ tt) → Fewer S us k (y tt) (y′ tt) → Fewer S us k (choose b x y) (choose b x′ y′)
   unfolding choose
   on-choose true x y x′ y′ h i = h
@@ -112,7 +107,7 @@ module _ (us : Trees) (k : ℕ) where
       → Fewer single us k (build (node kind mark p c0 c1 c2 c3 0) at n) (build (node kind mark p c0 c1 c2 c3 0) at k)
   on-row kind mark p at n c0 c1 c2 c3 e = on-build _ p at n (spans-row kind mark p at c0 c1 c2 c3 ∙ rw e)
 
-  -- The same where a list stands in the last slot.
+  -- The same where a list stands in the last slot that holds anything.
   pub on-row-list : (kind mark p at n : ℕ) (c0 c1 c2 c3 : Trees) → join us nil ≡ join c0 (join c1 (join c2 c3))
       → Fewer single us k (build (node kind mark p c0 c1 c2 c3 0) at n) (build (node kind mark p c0 c1 c2 c3 0) at k)
   on-row-list kind mark p at n c0 c1 c2 c3 e = on-row kind mark p at n c0 c1 c2 c3 (sym (join-nil us) ∙ e)

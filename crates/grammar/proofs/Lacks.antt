@@ -1,17 +1,17 @@
 -- Every reader with two numbers of rows: the walk of their text, and what it says of the three entries.
 use Prim.Native.Nat.{ℕ, zero, suc}
-use mathlib.Core.Path.{_≡_, refl}
+use mathlib.Core.Path.{refl}
 use mathlib.Core.List.{List}
 use Rattle.grammar.specs.Words.{EOF, tok, step, Zero}
 use Rattle.grammar.specs.Tree.{Tree, Trees, nil, _▸_, join, leaf, Thread, Async}
-use Rattle.grammar.specs.Parsed.{Parsed, Reader, _>>=_, build, match, turns}
+use Rattle.grammar.specs.Parsed.{Reader, build, turns}
 use Rattle.grammar.specs.Rules.{Rules}
 use Rattle.grammar.specs.Expressions as e
 use Rattle.grammar.specs.Statements as s
 use Rattle.grammar.specs.Script.{nesting, one-expression, one-statement, whole-script}
 use Rattle.grammar.proofs.Post.{end, _▹_}
 use Rattle.grammar.proofs.Runs.{single, listed}
-use Rattle.grammar.proofs.Fewer.{Fewer, on-from, then-tree, then-list, then-longer, on-need, on-choose, on-check, on-refused, on-read, on-flagged, on-row, on-row-list, on-infix, Reads, Lists, match-fewer}
+use Rattle.grammar.proofs.Fewer.{Fewer, on-from, then-tree, then-list, then-longer, on-choose, on-check, on-refused, on-read, on-flagged, on-row, on-row-list, on-infix, Reads, Lists, match-fewer}
 
 module _ (ts : List ℕ) where
   leaf-lacks : (kind mark : ℕ) → Reads nil (λ at. build (leaf kind mark at) at)
@@ -20,7 +20,7 @@ module _ (ts : List ℕ) where
 
   identifier-lacks : (kind mark : ℕ) → Reads nil (e.get-identifier ts (leaf kind mark))
   unfolding e.get-identifier
-  identifier-lacks kind mark at n k = search (on-need, leaf-lacks)
+  identifier-lacks kind mark at n k = search (on-check, leaf-lacks)
 
   no-prefix-lacks : Reads nil (e.no-prefix ts)
   unfolding e.no-prefix
@@ -31,7 +31,7 @@ module _ (ts : List ℕ) where
   dots-lack zero names at n k = on-refused _ _ _ _ _ _
   dots-lack (suc i) names at n k = let more = dots-lack i in search (on-choose, on-read, then-tree, identifier-lacks, more) depth 9
 
-  ruleset base = (then-tree, then-list, on-need, on-choose, on-refused, on-read, on-row, on-row-list, dots-lack, identifier-lacks)
+  ruleset base = (then-tree, then-list, on-check, on-choose, on-refused, on-read, on-row, on-row-list, dots-lack, identifier-lacks)
 
   dot-lacks : Reads nil (e.dot-expression ts)
   unfolding e.dot-expression join
@@ -201,11 +201,11 @@ module _ (ts : List ℕ) where
 
     alone-lacks : (kind mark number : ℕ) → Reads nil (s.alone rules ts expr stmt (leaf kind mark) number)
     unfolding s.alone join
-    alone-lacks kind mark number at n k = search (on-need, on-row)
+    alone-lacks kind mark number at n k = search (on-check, on-row)
 
     begun-lacks : (f : Reader Tree) → Reads nil f → Reads nil (s.begun rules ts expr stmt f)
     unfolding s.begun
-    begun-lacks f h at n k = on-need _ _ _ _ _ _ _ _ (h at n k)
+    begun-lacks f h at n k = on-check _ _ _ _ _ _ (h at n k)
 
     kept-lacks : Reads nil (s.kept rules ts expr stmt)
     unfolding s.kept

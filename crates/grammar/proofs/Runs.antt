@@ -2,7 +2,7 @@
 use Prim.Native.Nat.{ℕ, zero, suc, _+_, _-_, _/_, _%_, _≤_, _<_}
 use mathlib.Core.Path.{_≡_, refl, sym, ap, _∙_}
 use mathlib.Core.Bool.{Bool, true, false, cond}
-use mathlib.Core.List.{List, [], _∷_, _++_, append-nil, append-assoc}
+use mathlib.Core.List.{List, append-nil}
 use mathlib.Core.Logic.{_⊎_, inl, inr, ⊎-map}
 use native.Mathlib.Omega.{arith}
 use native.Mathlib.Decide.{decLt}
@@ -181,7 +181,7 @@ module _ (ts : List ℕ) where
         shut = λ n. tt;
       })
 
-  -- The same where a list stands in the last slot.
+  -- The same where a list stands in the last slot that holds anything.
   pub row-list : {s p n c room : ℕ} {us : Trees} (k mark at : ℕ) (c0 c1 c2 c3 : Trees) → Run ts s p n us c room → Ahead ts c at
       → join us nil ≡ join c0 (join c1 (join c2 c3)) → eqb k 12 ≡ false → Post (Shut ts s p n) (build (node k mark p c0 c1 c2 c3 0) at room)
   row-list {us} k mark at c0 c1 c2 c3 x h e other = row-of k mark at c0 c1 c2 c3 x h (rw (join-nil us) at e) other

@@ -242,7 +242,7 @@ Ends at (infixed m p l r z) = m < 256 → (z ≡ at) × Ends (p - 1) l × Ends a
 Ends at (node k m p a b c d z) = Unit {0}
 
 -- A chain's tree, read from `start` up to `at`: what was read, left to right, is the chain; the rule is kept, and any other tree of that reading that
--- keeps it is joined in the same way; each joint ends where it must, and no other tree ends so; so many rows are used; the entry accepts with so many
+-- keeps it is joined in the same way; each joint ends where it must, and no other such tree ends so; so many rows are used; the entry accepts with so many
 -- rows or more, and no more than `deep` expressions are open at once.
 pub record Grouping (rules : Rules) (ts : List ℕ) (deep start at used : ℕ) (parts : List Part) : Type 0 where
   pub tree : Tree
@@ -280,8 +280,8 @@ pub data Ended (ts : List ℕ) (last : ℕ) : (at : ℕ) → Type 0 where
   by-semicolons : (i : ℕ) → ((j : ℕ) → j ≤ i → tok ts (last + 1 + j) ≡ SSemiColon) → order (tok ts (last + 2 + i)) ≡ Zero
       → ¬ (tok ts (last + 2 + i) ≡ SSemiColon) → Ended ts last (last + 1)
 
--- The grouping condition: in a valid array a chain of n values is read as the one tree that keeps the rule, in 2n - 1 rows and with no more
--- than ten expressions open at once.
+-- The grouping condition: in a valid array a chain of n values is read as the one tree that keeps the rule and ends so, in 2n - 1 rows and with no
+-- more than ten expressions open at once.
 abbrev pub GroupsChains : Type 0
 GroupsChains =
     (rules : Rules) (ts : List ℕ) (s n at : ℕ) (parts : List Part) → array-good ts ≡ met → Chain ts s n parts → Ended ts (s + 2 * n - 2) at

@@ -1,15 +1,15 @@
 -- The promises of the entries: what is claimed of the definition, carried to every result that meets a contract.
-use Prim.Native.Nat.{ℕ, _-_}
+use Prim.Native.Nat.{ℕ}
 use native.Mathlib.Omega.{arith}
 use mathlib.Core.Path.{_≡_, refl, sym, ap, _∙_}
 use mathlib.Core.Logic.{_⊎_, inl, inr, ⊎-elim}
 use mathlib.Core.List.{List}
 use Rattle.grammar.specs.Tree.{Trees, sizes}
-use Rattle.grammar.specs.Parsed.{Parsed, refused, read, NoRow}
-use Rattle.grammar.specs.Script.{answer, pool, rows, word-of, one-expression, one-statement, whole-script}
+use Rattle.grammar.specs.Parsed.{Parsed, refused, read}
+use Rattle.grammar.specs.Script.{answer, pool, rows}
 use Rattle.grammar.proofs.Answers.{answers}
 use Rattle.grammar.proofs.Rows.{pool-rule}
-use Rattle.grammar.proofs.Ends.{ends, ends-told}
+use Rattle.grammar.proofs.Ends.{pool-ends, ends-told}
 use Rattle.grammar.specs.Claims.{RowsEnd, EndsWhereLacking, Unless}
 use Rattle.grammar.proofs.Strict.{strict-or-same}
 use Rattle.grammar.proofs.Suffices.{rows-enough, largest-enough, rows-full}
@@ -66,9 +66,9 @@ opened-ends P start root used place words ys h e =
 
 pub ends-answered : EndsAnswered
 ends-answered rules ts start room root used place words ys = (
-  opened-ends _ start root used place words ys (λ us left e. ends rules ts start room us place left .0 e words),
-  opened-ends _ start root used place words ys (λ us left e. ends rules ts start room us place left .1 e words),
-  opened-ends _ 0 root used place words ys (λ us left e. ends rules ts start room us place left .2 e words),
+  opened-ends _ start root used place words ys (λ us left e. pool-ends rules ts start room us place left .0 e words),
+  opened-ends _ start root used place words ys (λ us left e. pool-ends rules ts start room us place left .1 e words),
+  opened-ends _ 0 root used place words ys (λ us left e. pool-ends rules ts start room us place left .2 e words),
 )
 
 end-tells : (entry : (room : ℕ) → Parsed Trees) → EndsWhereLacking entry → EndTells entry

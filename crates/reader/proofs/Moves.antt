@@ -31,12 +31,12 @@ module _ (ts : List ℕ) (at : ℕ) {b : ℕ} (e : b ≡ step ts at) where
 pub ready-same : {ts xs ys : List ℕ} {f at b : ℕ} → Ready ts xs f at → length ys ≡ length xs → b < length ts → Ready ts ys f b
 ready-same h s w = let a = h .fits in let z = h .whole in record { sound = h .sound; within = w; whole = omega arith; fits = omega arith }
 
--- A place is small.
-pub small : {ts xs : List ℕ} {f at : ℕ} → Ready ts xs f at → at < 65536
-small h = omega (arith, h .within, h .sound .few)
-
+-- A place in the array is small, and so is the reader's own.
 pub small-in : {ts xs : List ℕ} {f at b : ℕ} → Ready ts xs f at → b < length ts → b < 65536
 small-in h w = omega (arith, h .sound .few)
+
+pub small : {ts xs : List ℕ} {f at : ℕ} → Ready ts xs f at → at < 65536
+small h = small-in h (h .within)
 
 -- A step from a token that is not EOF goes on.
 pub moves : {ts : List ℕ} {at : ℕ} → Sound ts → at < length ts → ((tok ts at ≡ EOF) → ⊥) → at < step ts at

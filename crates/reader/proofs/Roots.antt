@@ -7,11 +7,12 @@ use native.Mathlib.Nat.{add-zero}
 use lib.Dec.{eqb}
 use lib.ListN.{length, drop, length-append}
 use Rattle.grammar.specs.Tree.{Tree, infixed, node, Trees, nil, _▸_, size, sizes, head-ref, row, lay, lays, join, flag, flagged, is-call, width}
+use Rattle.grammar.proofs.Rows.{length-lay, length-lays}
 use Rattle.rows.specs.Rows.{marked, linked, read, bit, is-row, kind-word}
 use Rattle.rows.specs.declared.Flag.{Flag}
 use Rattle.rows.proofs.Laws.{marked-there, linked-there, kind-there}
 use Rattle.reader.specs.Meets.{Stands, lay-slots}
-use Rattle.reader.proofs.Slots.{lay-length, lays-length, some-rows}
+use Rattle.reader.proofs.Slots.{some-rows}
 
 -- The words of a row but for its mark and its next.
 record Words : Type 0 where
@@ -72,7 +73,7 @@ called (infixed m p l r z) f = refl
 called (node k m p a b c d z) f = refl
 
 body-length : (t : Tree) (f : ℕ) → length (body-of t f) + width ≡ width * size t
-body-length t f = sym (length-append (body-of t f) (words (last-of t f) (mark-of t) 0)) ∙ ap length (sym (parted t f 0)) ∙ lay-length t f 0
+body-length t f = sym (length-append (body-of t f) (words (last-of t f) (mark-of t) 0)) ∙ ap length (sym (parted t f 0)) ∙ length-lay t f 0
 
 -- ---- one tree in the first rows of a part
 
@@ -118,7 +119,7 @@ module _ {ts : List ℕ} {from : ℕ} {first k left : ℕ} {xs ys : List ℕ} {a
       record {
         front = record {
           laid = e;
-          long = rw (append-nil, append-nil) (lay-length (flagged (bit f) t) first 0 ∙ ap (λ (i : ℕ). width * i) (z ∙ rows));
+          long = rw (append-nil, append-nil) (length-lay (flagged (bit f) t) first 0 ∙ ap (λ (i : ℕ). width * i) (z ∙ rows));
           fit = s .front .fit;
         };
         ends = omega (arith, s .ends, z);
@@ -173,7 +174,7 @@ last-row t (u ▸ us) f =
       last = r .last;
       mark = r .mark;
       is = λ n. ap (λ (w : List ℕ). first ++ w) (r .is n) ∙ sym (append-assoc first (r .body) (words (r .last) (r .mark) n));
-      long = simp length-append (omega (arith, r .long, lay-length t f (f + size t + size u)));
+      long = simp length-append (omega (arith, r .long, length-lay t f (f + size t + size u)));
     }
 
 -- A link stored in the last row of a list joins what is behind it.
@@ -212,7 +213,7 @@ stands-linked {ts} {from} {first} {m} {left} {xs} {ys} {at} us vs k h s e eh =
     record {
       front = record {
         laid = ap (λ (x : List ℕ). linked x k h) (s .front .laid) ∙ ap (linked (lay-slots (us ∷ vs ∷ []) first ++ drop (width * m) xs) k) eh ∙ link-slots us vs first k (drop (width * m) xs) (omega arith);
-        long = ap length (append-nil (lays (join us vs) first)) ∙ lays-length (join us vs) first ∙ omega arith;
+        long = ap length (append-nil (lays (join us vs) first)) ∙ length-lays (join us vs) first ∙ omega arith;
         fit = s .front .fit;
       };
       ends = omega arith;

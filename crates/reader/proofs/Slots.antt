@@ -1,25 +1,11 @@
--- How the words of trees and of slots are put together: their lengths, one slot more, and a root behind its slots.
+-- How the words of slots are put together: one slot more, and a root behind its slots.
 use mathlib.Core.Path.{_≡_, refl, sym, ap, _∙_}
 use mathlib.Core.List.{List, [], _∷_, _++_, append-assoc, append-nil}
-use Prim.Native.Nat.{ℕ, _+_, _*_, _<_}
+use Prim.Native.Nat.{ℕ, _+_, _<_}
 use native.Mathlib.Omega.{arith}
 use native.Mathlib.Nat.{add-zero}
-use lib.ListN.{length, length-append}
-use Rattle.grammar.specs.Tree.{Tree, infixed, node, Trees, nil, _▸_, size, sizes, head-ref, row, lay, lays, width, ended}
+use Rattle.grammar.specs.Tree.{Tree, infixed, node, Trees, nil, _▸_, size, sizes, row, lay, lays, ended}
 use Rattle.reader.specs.Meets.{lay-slots, after, four, Root, of-node, of-infix, Refs, Few}
-
-mutual
-  unfolding lay
-
-  pub lay-length : (t : Tree) (f n : ℕ) → length (lay t f n) ≡ width * size t
-  lay-length (infixed m p l r z) f n = simp length-append (omega (arith, lay-length l f 0, lay-length r (f + size l) 0))
-  lay-length (node k m p a b c d z) f n =
-      simp length-append
-      (omega (arith, lays-length a f, lays-length b (f + sizes a), lays-length c (f + sizes a + sizes b), lays-length d (f + sizes a + sizes b + sizes c)))
-
-  pub lays-length : (us : Trees) (f : ℕ) → length (lays us f) ≡ width * sizes us
-  lays-length nil f = refl
-  lays-length (t ▸ us) f = simp length-append (omega (arith, lay-length t f (head-ref us (f + size t)), lays-length us (f + size t)))
 
 pub some-rows : (t : Tree) → 0 < size t
 some-rows (infixed m p l r z) = omega arith
