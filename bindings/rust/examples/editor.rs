@@ -10,41 +10,14 @@
 //!
 //! The status is 0 where the script is accepted, 1 where it is refused, 2 where the command or its
 //! input can't be read.
+mod command;
+use command::TOKENS;
 use shigthapul::{check, whole_script};
 use shigthapul::{Field, Kind, Mode, Refusal, Row, Token, TokenFile, ROW_WORDS, TOKEN_WORDS};
-use std::io::{self, Read};
 use std::process::ExitCode;
 
-/// The longest file and a byte more, and its tokens.
-const BYTES: u64 = 60_001;
-const TOKENS: usize = 20_000;
-
 fn main() -> ExitCode {
-    let words: Vec<String> = std::env::args().skip(1).collect();
-    let words: Vec<&str> = words.iter().map(String::as_str).collect();
-    let mode = match words[..] {
-        [] => Mode::Old,
-        ["--strict"] => Mode::Strict,
-        _ => {
-            eprintln!("usage: editor [--strict] < FILE.tok");
-            return ExitCode::from(2);
-        }
-    };
-    let mut file = vec![];
-    if let Err(error) = io::stdin().lock().take(BYTES).read_to_end(&mut file) {
-        eprintln!("editor: {}", error);
-        return ExitCode::from(2);
-    }
-    match edited(&file, mode) {
-        Ok(text) => {
-            println!("{}", text);
-            ExitCode::SUCCESS
-        }
-        Err(refusal) => {
-            println!("{}", refusal);
-            ExitCode::FAILURE
-        }
-    }
+    command::run("editor", |file, mode| edited(file, mode).map(|text| text + "\n"))
 }
 
 /// The text of a file's script after the changes.

@@ -14,42 +14,15 @@
 //!
 //! The status is 0 where the script is accepted, 1 where it is refused, 2 where the command or its
 //! input can't be read.
+mod command;
+use command::TOKENS;
 use shigthapul::{
     read_file, whole_script, Kind, Mode, Node, Refusal, Symbol, Token, Tree, TOKEN_WORDS,
 };
-use std::io::{self, Read};
 use std::process::ExitCode;
 
-/// The longest file and a byte more, and its tokens.
-const BYTES: u64 = 60_001;
-const TOKENS: usize = 20_000;
-
 fn main() -> ExitCode {
-    let words: Vec<String> = std::env::args().skip(1).collect();
-    let words: Vec<&str> = words.iter().map(String::as_str).collect();
-    let mode = match words[..] {
-        [] => Mode::Old,
-        ["--strict"] => Mode::Strict,
-        _ => {
-            eprintln!("usage: hover [--strict] < FILE.tok");
-            return ExitCode::from(2);
-        }
-    };
-    let mut file = vec![];
-    if let Err(error) = io::stdin().lock().take(BYTES).read_to_end(&mut file) {
-        eprintln!("hover: {}", error);
-        return ExitCode::from(2);
-    }
-    match lines(&file, mode) {
-        Ok(lines) => {
-            print!("{}", lines);
-            ExitCode::SUCCESS
-        }
-        Err(refusal) => {
-            println!("{}", refusal);
-            ExitCode::FAILURE
-        }
-    }
+    command::run("hover", lines)
 }
 
 /// The lines of a file's tokens.
