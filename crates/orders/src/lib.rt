@@ -41,39 +41,17 @@ pub fn order_of(t: Token) -> usize
     }
 }
 
+// A bit for each of the 41 symbols, at its code: set for the 23 infix operators.
+const INFIXES: u64 = 0x3_9EF3_A79E;
+
 // Whether a token is one of the 23 infix operators: has_infix.
 pub fn is_infix(t: Token) -> bool
     ensures { λ r. ⌜ r ≡ ltb 0 (infix-of (word t)) ⌝ }
 {
-    match t {
-        Token::Operator(s) => match s {
-            Symbol::SPlus
-            | Symbol::SMinus
-            | Symbol::SMul
-            | Symbol::SDiv
-            | Symbol::SMod
-            | Symbol::SAnd
-            | Symbol::SOr
-            | Symbol::SEq
-            | Symbol::SEeq
-            | Symbol::SNe
-            | Symbol::SGte
-            | Symbol::SGt
-            | Symbol::SLte
-            | Symbol::SLt
-            | Symbol::SPlusEq
-            | Symbol::SMinusEq
-            | Symbol::SMulEq
-            | Symbol::SDivEq
-            | Symbol::SModEq
-            | Symbol::SAndEq
-            | Symbol::SOrEq
-            | Symbol::SLOr
-            | Symbol::SLAnd => true,
-            _ => false,
-        },
-        _ => false,
-    }
+    let Token::Operator(s) = t else {
+        return false;
+    };
+    (INFIXES >> tokens::symbol_code(s)) & 1 == 1
 }
 
 // The mark of an infix operator, 0 for any other token: parse_infix_expression.

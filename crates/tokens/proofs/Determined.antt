@@ -1,10 +1,14 @@
 -- For each public function: its contract determines what it answers.
 use Rattle.grammar.specs.Once.{Determines}
+use Rattle.tokens.proofs.symbol_code.Reads as symbol-code
 use Rattle.tokens.proofs.class_of.Reads as class-of
 use Rattle.tokens.proofs.code_of.Reads as code-of
 use Rattle.tokens.proofs.is_valid.Reads as is-valid
 use Rattle.tokens.proofs.token_of.Reads as token-of
 use Rattle.tokens.proofs.word_of.Reads as word-of
+
+pub symbol-code-determined : Determines symbol-code.Post (λ κs r left. r)
+symbol-code-determined κs args r r′ left left′ p q = cc
 
 pub class-of-determined : Determines class-of.Post (λ κs r left. r)
 class-of-determined κs args r r′ left left′ p q = cc

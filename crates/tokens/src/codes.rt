@@ -6,7 +6,7 @@ ghost use Prim.Native.Nat.{_<_};
 ghost use Rattle.tokens.specs.Symbols.{symbol-code, keyword-code, symbol-at, keyword-at};
 
 // The code of a symbol.
-pub(crate) fn symbol_code(s: Symbol) -> u8
+pub fn symbol_code(s: Symbol) -> u8
     ensures { λ r. ⌜ r ≡ symbol-code s ⌝ }
 {
     s as u8

@@ -2,6 +2,7 @@
 mod codes;
 mod word;
 
+pub use codes::symbol_code;
 pub use word::class_of;
 pub use word::code_of;
 pub use word::is_valid;

@@ -1,34 +1,61 @@
--- `orders::is_infix` meets its contract: the 23 symbols have a mark, and the others and the other tokens have none. Assumes nothing.
-use Prim.Native.Nat.{ℕ}
-use mathlib.Core.Path.{refl, sym}
-use mathlib.Core.Bool.{not}
-use mathlib.Core.List.{List, [], _∷_}
-use lib.Dec.{ltb}
+-- `orders::is_infix` meets its contract: the constant has a bit at the code of each symbol that has a mark, and at no other. Assumes nothing.
+use Prim.Native.Nat.{ℕ, _+_, _*_, _/_, _^_, _<_}
+use native.Mathlib.Omega.{arith}
+use mathlib.Core.Path.{_≡_, refl, sym}
+use mathlib.Core.Bool.{Bool, true, false, not, Bool·beq}
+use mathlib.Core.List.{[], _∷_}
+use lib.Bits.{bitAnd}
+use lib.Dec.{eqb, ltb}
 use borrow.Author.Needs.{needs}
-use borrow.Author.Tests.{not-true}
-use Rattle.grammar.specs.Words.{class, code, by-code, infixes, infix-of, codes}
-use Rattle.tokens.proofs.Tests.{but}
-use Rattle.tokens.proofs.Arms.{operator-arm, token-arm}
+use borrow.Author.Tests.{ltb-true, not-true}
+use Rattle.grammar.specs.Words.{Operator, class, code, by-code, infixes, infix-of, codes}
+use Rattle.tokens.specs.declared.Symbol.{Symbol}
+use Rattle.tokens.specs.Symbols.{symbol-code}
+use Rattle.tokens.proofs.Tests.{below, but, under}
+use Rattle.tokens.proofs.Arms.{symbol-coded, token-arm}
 use Rattle.orders.proofs.is_infix.Statement.{statement}
 use Rattle.orders.proofs.is_infix.Tie as tie
 
-abbrev infix-tags : List ℕ
-infix-tags = 1 ∷ 2 ∷ 3 ∷ 4 ∷ 13 ∷ 20 ∷ 21 ∷ 15 ∷ 16 ∷ 17 ∷ 10 ∷ 8 ∷ 9 ∷ 7 ∷ 27 ∷ 28 ∷ 31 ∷ 32 ∷ 33 ∷ 22 ∷ 23 ∷ 26 ∷ 25 ∷ []
+-- Whether a number has the bit at a code.
+abbrev bit : (bits code : ℕ) → Bool
+bit bits k = eqb (bitAnd (bits / 2 ^ k) 1) 1
+
+-- Whether the operator of a code has a mark.
+abbrev marked : ℕ → Bool
+marked k = ltb 0 (infix-of (Operator * 256 + k))
+
+alike : (a b : Bool) → Bool·beq a b ≡ true → a ≡ b
+alike true true h = refl
+alike true false h = sym h
+alike false true h = h
+alike false false h = refl
+
+coded : (s : Symbol) → symbol-code s < 41
+coded s = ltb-true _ _ (symbol-coded s .1)
+
+-- A number whose bits are the marks at all 41 codes tells of any symbol whether it has a mark.
+told : (bits : ℕ) → below (λ k. Bool·beq (bit bits k) (marked k)) 41 ≡ true → (s : Symbol) → bit bits (symbol-code s) ≡ marked (symbol-code s)
+told bits h s = alike _ _ (under (λ k. Bool·beq (bit bits k) (marked k)) 41 h (symbol-code s) (coded s))
 
 enum-known-t : tie.Need-enum-known-t
 enum-known-t c = search needs
 
 returns : tie.Need-returns
-unfolding class code by-code infixes infix-of
-returns c = sym (operator-arm (λ w. ltb 0 (infix-of w)) infix-tags (c .before .before .t .given .1) (c .match2 .keys1) refl)
+unfolding class code by-code infixes infix-of codes
+returns c = sym (not-true _ (token-arm (λ w. not (ltb 0 (infix-of w))) (but (8 ∷ []) 11) (c .before .args .t) (c .match .keys2) refl))
+
+symbol-code-requires : tie.Need-symbol-code-requires
+symbol-code-requires c κs = search needs
+
+cast-result : tie.Need-cast-result
+cast-result c = search needs
+
+shr-result : tie.Need-shr-result
+shr-result c = rw (c .symbol-code .ensures) (omega (arith, coded (c .before .before .t .given .0 .0)))
 
 returns-2 : tie.Need-returns-2
 unfolding class code by-code infixes infix-of
-returns-2 c = sym (not-true _ (operator-arm (λ w. not (ltb 0 (infix-of w))) (but infix-tags 41) (c .before .before .t .given .1) (c .match2 .keys2) refl))
-
-returns-3 : tie.Need-returns-3
-unfolding class code by-code infixes infix-of codes
-returns-3 c = sym (not-true _ (token-arm (λ w. not (ltb 0 (infix-of w))) (but (8 ∷ []) 11) (c .before .args .t) (c .match .keys2) refl))
+returns-2 c = rw (c .symbol-code .ensures, c .before .before .t .given .1) (told _ refl (c .before .before .t .given .0 .0))
 
 pub is-infix-spec : {M : Type 1} → statement M
-is-infix-spec = tie.close (tie.spec enum-known-t returns returns-2 returns-3)
+is-infix-spec = tie.close (tie.spec enum-known-t returns symbol-code-requires cast-result shr-result returns-2)
