@@ -17,13 +17,14 @@ use Rattle.orders.proofs.is_infix.Statement.{statement}
 use Rattle.orders.proofs.is_infix.Tie as tie
 
 -- Whether a number has the bit at a code.
-abbrev bit : (bits code : ℕ) → Bool
+abbrev bit : (bits k : ℕ) → Bool
 bit bits k = eqb (bitAnd (bits / 2 ^ k) 1) 1
 
 -- Whether the operator of a code has a mark.
 abbrev marked : ℕ → Bool
 marked k = ltb 0 (infix-of (Operator * 256 + k))
 
+-- Two tests that are found equal are.
 alike : (a b : Bool) → Bool·beq a b ≡ true → a ≡ b
 alike true true h = refl
 alike true false h = sym h
