@@ -20,11 +20,15 @@ use Rattle.orders.proofs.is_infix.Tie as tie
 abbrev bit : (bits k : ℕ) → Bool
 bit bits k = eqb (bitAnd (bits / 2 ^ k) 1) 1
 
--- Whether the operator of a code has a mark.
+-- Whether a word has a mark.
 abbrev marked : ℕ → Bool
-marked k = ltb 0 (infix-of (Operator * 256 + k))
+marked w = ltb 0 (infix-of w)
 
--- Two tests that are found equal are.
+-- Whether the bit at a code says of its operator what the mark says.
+abbrev right : (bits k : ℕ) → Bool
+right bits k = Bool·beq (bit bits k) (marked (Operator * 256 + k))
+
+-- Two tests that compare as equal are equal.
 alike : (a b : Bool) → Bool·beq a b ≡ true → a ≡ b
 alike true true h = refl
 alike true false h = sym h
@@ -34,16 +38,16 @@ alike false false h = refl
 coded : (s : Symbol) → symbol-code s < 41
 coded s = ltb-true _ _ (symbol-coded s .1)
 
--- A number whose bits are the marks at all 41 codes tells of any symbol whether it has a mark.
-told : (bits : ℕ) → below (λ k. Bool·beq (bit bits k) (marked k)) 41 ≡ true → (s : Symbol) → bit bits (symbol-code s) ≡ marked (symbol-code s)
-told bits h s = alike _ _ (under (λ k. Bool·beq (bit bits k) (marked k)) 41 h (symbol-code s) (coded s))
+-- A number that is right at all 41 codes tells of any symbol whether it has a mark.
+told : (bits : ℕ) → below (right bits) 41 ≡ true → (s : Symbol) → bit bits (symbol-code s) ≡ marked (Operator * 256 + symbol-code s)
+told bits h s = alike _ _ (under (right bits) 41 h (symbol-code s) (coded s))
 
 enum-known-t : tie.Need-enum-known-t
 enum-known-t c = search needs
 
 returns : tie.Need-returns
 unfolding class code by-code infixes infix-of codes
-returns c = sym (not-true _ (token-arm (λ w. not (ltb 0 (infix-of w))) (but (8 ∷ []) 11) (c .before .args .t) (c .match .keys2) refl))
+returns c = sym (not-true _ (token-arm (λ w. not (marked w)) (but (8 ∷ []) 11) (c .before .args .t) (c .match .keys2) refl))
 
 symbol-code-requires : tie.Need-symbol-code-requires
 symbol-code-requires c κs = search needs
