@@ -28,7 +28,7 @@ build_bench() { # SRC_DIR
 build_plain() {
     mkdir -p "$PLAIN_DIR"
     rm -f "$PLAIN_DIR/libplain.a"
-    for build_name in reader writer unicode; do
+    for build_name in reader tree writer unicode fields json; do
         "$CC" -std=c11 -O3 -Wall -Wextra -c -o "$PLAIN_DIR/$build_name.o" "$here/$build_name.c"
         "$AR" rc "$PLAIN_DIR/libplain.a" "$PLAIN_DIR/$build_name.o"
     done
@@ -44,6 +44,11 @@ build_ours() {
     fi
 }
 
+# Whether an archive has the writer of JSON texts; one from before hasn't.
+build_has_json() { # ARCHIVE
+    grep -q shigthapul_json "$1"
+}
+
 # Builds the program into a folder below the target folder; with this reader if it has an archive.
 build_rust() { # FOLDER ARCHIVE
     BENCH=$build_target/$1/bench
@@ -52,6 +57,7 @@ build_rust() { # FOLDER ARCHIVE
         EXPORTS_DIR=$(cd "$(dirname "$2")" && pwd)
         export EXPORTS_DIR
         build_features='--features ours'
+        ! build_has_json "$2" || build_features='--features json'
     fi
     # shellcheck disable=SC2086 # two words, or none
     "$CARGO" build --release --offline --quiet --manifest-path "$here/Cargo.toml" \

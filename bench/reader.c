@@ -1,5 +1,6 @@
 /* A plain reader of scripts in C, the measure of the bench: recursive descent, its functions named after the original's. */
 #include "reader.h"
+#include "answer.h"
 #include "state.h"
 
 #include <string.h>
@@ -538,13 +539,6 @@ static size_t first_fault(const uint16_t *tokens, size_t count) {
     return place;
 }
 
-static void answer_refusal(uint64_t answer[4], uint64_t number, uint64_t place) {
-    answer[0] = number;
-    answer[1] = place;
-    answer[2] = 0;
-    answer[3] = 0;
-}
-
 /* Clears the pool, checks the array and the start, and reads. */
 static void enter(uint32_t (*entry)(Reader *), const uint16_t *tokens, size_t count, uint32_t *pool,
                   size_t words, size_t start, bool strict, uint64_t answer[4]) {
@@ -553,17 +547,17 @@ static void enter(uint32_t (*entry)(Reader *), const uint16_t *tokens, size_t co
     Reader r = {tokens, (uint32_t)count - 1, (uint32_t)start, 0, pool, (uint32_t)rows, 0, 0, strict};
     memset(pool, 0, words * sizeof *pool);
     if (count == 0 || fault < count) {
-        answer_refusal(answer, BAD_ARRAY, fault);
+        answer_with(answer, BAD_ARRAY, fault);
         return;
     }
     if (start >= count) {
-        answer_refusal(answer, BAD_START, 0);
+        answer_with(answer, BAD_START, 0);
         return;
     }
     uint32_t root = entry(&r);
     if (root == FAILED) {
         memset(pool, 0, words * sizeof *pool);
-        answer_refusal(answer, r.number, r.at);
+        answer_with(answer, r.number, r.at);
         return;
     }
     answer[0] = 0;

@@ -1,5 +1,6 @@
 /* Reads the oracle's records of trees on standard input, and compares the plain C check and writer with each: the answers,
    and every word of both slices. Prints the counts; the status is 1 if any differ. */
+#include "recorded.h"
 #include "words.h"
 #include "writer.h"
 
@@ -10,44 +11,6 @@
 /* The head of a record, words of four bytes: what is lent, the answer, and the entry that reads what is written, which is
    not looked at here. */
 enum { ROOT, POOL, WORDS_ROOM, PLACES_ROOM, NUMBER, VALUE, ENTRY, HEAD };
-
-static void fail(const char *what) {
-    fprintf(stderr, "records: %s\n", what);
-    exit(2);
-}
-
-static void *room_for(size_t bytes) {
-    void *room = malloc(bytes + 1);
-    if (room == NULL)
-        fail("no memory");
-    return room;
-}
-
-/* Reads words of so many bytes each, low byte first; false if the stream ends before the first. */
-static bool get_words(uint32_t *words, size_t count, size_t size) {
-    unsigned char *bytes = room_for(size * count);
-    size_t got = fread(bytes, 1, size * count, stdin);
-    if (got > 0 && got < size * count)
-        fail("the stream ends in the middle of a record");
-    for (size_t i = 0; i < count; i++) {
-        words[i] = 0;
-        for (size_t byte = size; byte-- > 0;)
-            words[i] = words[i] << 8 | bytes[size * i + byte];
-    }
-    free(bytes);
-    return got == size * count;
-}
-
-static uint32_t *read_words(size_t count, size_t size) {
-    uint32_t *words = room_for(count * sizeof *words);
-    if (!get_words(words, count, size))
-        fail("the stream ends in the middle of a record");
-    return words;
-}
-
-static bool is_answer(const uint64_t answer[4], uint64_t number, uint64_t value) {
-    return answer[0] == number && answer[1] == value && answer[2] == 0 && answer[3] == 0;
-}
 
 /* Whether the plain C writer writes what a record says: so many tokens, and zeros behind them. */
 static bool is_written(const uint32_t head[HEAD], const uint32_t *pool, const uint32_t *words, const uint32_t *places,

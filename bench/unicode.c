@@ -1,4 +1,4 @@
-/* A plain check of UTF-8 in C, the measure of the bench: straight by Table 3-7 of the Unicode Standard. */
+/* UTF-8 in plain C, the measure of the bench: the check straight by Table 3-7 of the Unicode Standard, and characters. */
 #include "unicode.h"
 
 /* Whether a byte is one behind the first of a sequence. */
@@ -35,4 +35,19 @@ bool plain_is_text(const uint8_t *bytes, size_t length) {
         }
     }
     return true;
+}
+
+bool plain_is_scalar(uint32_t number) {
+    return number < 0xD800 || (number >= 0xE000 && number < 0x110000);
+}
+
+size_t plain_encode(uint32_t character, uint8_t bytes[4]) {
+    static const uint8_t LEADS[] = {0, 0, 0xC0, 0xE0, 0xF0};
+    size_t count = character < 0x80 ? 1 : character < 0x800 ? 2 : character < 0x10000 ? 3 : 4;
+    for (size_t at = count - 1; at > 0; at--) {
+        bytes[at] = (uint8_t)(0x80 | (character & 0x3F));
+        character >>= 6;
+    }
+    bytes[0] = (uint8_t)(LEADS[count] | character);
+    return count;
 }

@@ -1,4 +1,4 @@
-/* The plain C check of text. */
+/* The plain C check of text and of characters, and their bytes. */
 #ifndef PLAIN_UNICODE_H
 #define PLAIN_UNICODE_H
 
@@ -8,5 +8,11 @@
 
 /* Whether bytes are well-formed UTF-8. */
 bool plain_is_text(const uint8_t *bytes, size_t length);
+
+/* Whether a number is that of a character: a scalar value. */
+bool plain_is_scalar(uint32_t number);
+
+/* Writes a character in UTF-8, and gives the count of its bytes. */
+size_t plain_encode(uint32_t character, uint8_t bytes[4]);
 
 #endif

@@ -1,4 +1,5 @@
-"""The oracle's formats, for scripts that read and write them: a case's head, an answer, a row, and records of cases."""
+"""The oracle's formats, for scripts that read and write them: a case's head, an answer, a row, and records of cases and of
+JSON texts."""
 import collections
 import struct
 
@@ -15,9 +16,15 @@ ROW = struct.Struct(f"<{ROW_WORDS}I")
 Record = collections.namedtuple("Record", "entry start pool tokens answer rows")
 
 
-def records(stream, row_words=ROW_WORDS):
-    """Each case of a recorded list with its answer; a ValueError if the stream ends within one."""
-    row = struct.Struct(f"<{row_words}I")
+# The head of a recorded JSON text: the root, the lengths of the pool in words, of the file and of the lent slice in bytes,
+# the number and the value of the answer, and 0; the pool's words follow, the file, and the text if the number is 0.
+TEXT_HEAD = struct.Struct("<7I")
+Retold = collections.namedtuple("Retold", "root pool file room number value text")
+
+
+def cases(stream, one):
+    """Each case of a list, as a function makes it that is given one for so many next bytes; a ValueError if the stream ends
+    within a case."""
     at = 0
 
     def taken(length):
@@ -28,9 +35,30 @@ def records(stream, row_words=ROW_WORDS):
         return part
 
     while at < len(stream):
+        yield one(taken)
+
+
+def records(stream, row_words=ROW_WORDS):
+    """Each case of a recorded list with its answer."""
+    row = struct.Struct(f"<{row_words}I")
+
+    def one(taken):
         entry, start, low, high, count = HEAD.unpack(taken(HEAD.size))
         tokens = taken(2 * count)
         answer = ANSWER.unpack(taken(ANSWER.size))
         used = answer[2] if answer[0] == 0 else 0
         rows = list(row.iter_unpack(taken(used * row.size)))
-        yield Record(entry, start, low | high << 16, tokens, answer, rows)
+        return Record(entry, start, low | high << 16, tokens, answer, rows)
+
+    return cases(stream, one)
+
+
+def retold(stream):
+    """Each case of a list of JSON texts."""
+
+    def one(taken):
+        root, words, length, room, number, value, _ = TEXT_HEAD.unpack(taken(TEXT_HEAD.size))
+        pool, file = taken(4 * words), taken(length)
+        return Retold(root, pool, file, room, number, value, taken(value) if number == 0 else b"")
+
+    return cases(stream, one)

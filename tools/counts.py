@@ -18,11 +18,16 @@ LINE = re.compile(
 KEYS = ["cases", "strict", "three", *OURS, "roomy", *FORMS]
 
 
+def last(said, line, keys):
+    """The counts in the last line of what the oracle said, in the order of the keys; none if it is another line."""
+    lines = said.splitlines()
+    found = line.fullmatch(lines[-1]) if lines else None
+    return collections.Counter(dict(zip(keys, map(int, found.groups())))) if found else collections.Counter()
+
+
 def of(said):
     """The counts in the last line of what the oracle said; none at all if it isn't such a line."""
-    lines = said.splitlines()
-    found = LINE.fullmatch(lines[-1]) if lines else None
-    return collections.Counter(dict(zip(KEYS, map(int, found.groups())))) if found else collections.Counter()
+    return last(said, LINE, KEYS)
 
 
 def shown(count):

@@ -8,6 +8,7 @@ import unittest
 sys.dont_write_bytecode = True
 import scripts
 
+import recording
 import tree_counts
 
 compare_trees = scripts.load("compare-trees")
@@ -101,7 +102,7 @@ class Parts(unittest.TestCase):
 
 class Wishes(unittest.TestCase):
     def test_each_part_has_a_seed_of_its_own(self):
-        wishes = [wish for _, _, wish in compare_trees.parts(5)]
+        wishes = [wish for _, _, wish in recording.parts(compare_trees.KINDS, 5)]
         self.assertEqual(len(set(wishes)), len(wishes))
         self.assertIn("grown --seed 5 --count 100000", wishes)
         self.assertIn("grown --seed 7 --count 100000", wishes)

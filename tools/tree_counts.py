@@ -5,8 +5,9 @@ those of them that a batch can hold; 32, the others; "back", the trees that mode
 both modes; "deep" and "long", those that are refused with 2 and 1; "root" and "row", the refusals with 38 at 0 and at a row;
 and the refusals at a row by its fault, where it has just one, "several" where it has more.
 """
-import collections
 import re
+
+import counts
 
 FAULTS = ["kind", "mark", "unused", "missing", "later", "next", "outside", "twice", "slot", "several"]
 LINE = re.compile(
@@ -19,9 +20,7 @@ KEYS = ["cases", "trees", "written", "forms", 32, "back", "deep", "long", "root"
 
 def of(said):
     """The counts in the last line of what the oracle said; none at all if it isn't such a line."""
-    lines = said.splitlines()
-    found = LINE.fullmatch(lines[-1]) if lines else None
-    return collections.Counter(dict(zip(KEYS, map(int, found.groups())))) if found else collections.Counter()
+    return counts.last(said, LINE, KEYS)
 
 
 def shown(count):

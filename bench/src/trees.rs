@@ -1,4 +1,4 @@
-//! Trees in pools, of three shapes and any number of rows, made by chance from fixed seeds.
+//! Trees in pools, of some shapes and any number of rows, made by chance from fixed seeds.
 use crate::chance::Chance;
 use crate::readers::{self, CHILD, NEXT, ROW};
 use crate::scripts::{self, Kind};
@@ -8,25 +8,35 @@ use crate::scripts::{self, Kind};
 pub enum Shape {
     /// `a = a = a` and so on with any operators: as deep as there are operators.
     Deep,
+    /// A script of such statements, each as deep as a tree may be that is written as JSON.
+    Nests,
     /// A script of simple statements.
     Wide,
     /// A script of statements of every form, as they are read.
     Mixed,
+    /// A script of strings, one to a statement.
+    Strings,
 }
 
 impl Shape {
-    pub const ALL: [Shape; 3] = [Shape::Deep, Shape::Wide, Shape::Mixed];
+    /// Those that are written as scripts.
+    pub const SCRIPTS: [Shape; 3] = [Shape::Deep, Shape::Wide, Shape::Mixed];
 
+    /// Those that are written as JSON.
+    pub const JSON: [Shape; 4] = [Shape::Nests, Shape::Wide, Shape::Mixed, Shape::Strings];
+
+    /// Its name, which no other of the same list has.
     pub fn name(self) -> &'static str {
         match self {
-            Shape::Deep => "deep",
+            Shape::Deep | Shape::Nests => "deep",
             Shape::Wide => "wide",
             Shape::Mixed => "mixed",
+            Shape::Strings => "texts",
         }
     }
 
-    pub fn named(name: &str) -> Option<Shape> {
-        Shape::ALL.iter().copied().find(|shape| shape.name() == name)
+    pub fn named(name: &str, list: &[Shape]) -> Option<Shape> {
+        list.iter().copied().find(|shape| shape.name() == name)
     }
 }
 
@@ -40,6 +50,10 @@ const EXPRESSION: u32 = 38;
 const BLOCK: u32 = 46;
 const INFIX_MARKS: usize = 23;
 
+/// The most operators in one another in a tree that is written as JSON: with a value, the statement and the block around
+/// them 128 rows are on a path.
+const NESTED: usize = 128 - 3;
+
 /// The most tokens of a script that a mixed tree takes its statements from.
 const PIECE: usize = 1000;
 
@@ -48,8 +62,10 @@ pub fn tree(shape: Shape, rows: usize, number: u64) -> Vec<u32> {
     let mut maker = Maker { chance: Chance::new(number), words: vec![] };
     match shape {
         Shape::Deep => maker.deep(rows),
-        Shape::Wide => maker.wide(rows),
+        Shape::Nests => maker.script(rows, Maker::nest),
+        Shape::Wide => maker.script(rows, Maker::simple),
         Shape::Mixed => maker.mixed(rows, number),
+        Shape::Strings => maker.script(rows, Maker::string),
     }
     assert_eq!(maker.words.len(), ROW * rows);
     maker.words
@@ -83,16 +99,22 @@ impl Maker {
         self.put(kind, 0, [0, 0])
     }
 
-    /// Operators in one another, to the left; an even number of rows has a statement around them.
-    fn deep(&mut self, rows: usize) {
+    /// So many operators in one another, to the left.
+    fn chain(&mut self, operators: usize) -> u32 {
         let mut left = self.value();
-        for _ in 0..(rows - 1) / 2 {
+        for _ in 0..operators {
             let right = self.value();
             let mark = self.chance.below(INFIX_MARKS) as u32;
             left = self.put(INFIX, mark, [left, right]);
         }
+        left
+    }
+
+    /// One chain of operators; an even number of rows has a statement around it.
+    fn deep(&mut self, rows: usize) {
+        let chain = self.chain((rows - 1) / 2);
         if rows % 2 == 0 {
-            self.put(EXPRESSION, 0, [left, 0]);
+            self.put(EXPRESSION, 0, [chain, 0]);
         }
     }
 
@@ -104,25 +126,44 @@ impl Maker {
         self.put(BLOCK, 0, [statements.first().copied().unwrap_or(0), 0]);
     }
 
-    /// Simple statements: of one row, or two.
-    fn wide(&mut self, rows: usize) {
+    /// How many of so many rows are left besides the block around all.
+    fn left(&self, rows: usize) -> usize {
+        rows - 1 - self.words.len() / ROW
+    }
+
+    /// Statements of at most so many rows each, as long as there are rows; where one is left, it is a `break`.
+    fn script(&mut self, rows: usize, statement: fn(&mut Maker, usize) -> u32) {
         let mut statements = vec![];
-        while self.words.len() / ROW < rows - 1 {
-            let left = rows - 1 - self.words.len() / ROW;
-            let statement = match self.chance.below(if left > 1 { 4 } else { 1 }) {
-                0 => self.put(BREAK, 0, [0, 0]),
-                1 => {
-                    let value = self.value();
-                    self.put(RETURN, 0, [value, 0])
-                }
-                _ => {
-                    let value = self.value();
-                    self.put(EXPRESSION, 0, [value, 0])
-                }
-            };
-            statements.push(statement);
+        while self.left(rows) > 0 {
+            statements.push(match self.left(rows) {
+                1 => self.put(BREAK, 0, [0, 0]),
+                left => statement(self, left),
+            });
         }
         self.block(&statements);
+    }
+
+    /// A statement of at most so many rows with operators in one another.
+    fn nest(&mut self, most: usize) -> u32 {
+        let chain = self.chain(NESTED.min((most - 2) / 2));
+        self.put(EXPRESSION, 0, [chain, 0])
+    }
+
+    /// A simple statement: of one row, or two.
+    fn simple(&mut self, _most: usize) -> u32 {
+        let kind = match self.chance.below(4) {
+            0 => return self.put(BREAK, 0, [0, 0]),
+            1 => RETURN,
+            _ => EXPRESSION,
+        };
+        let value = self.value();
+        self.put(kind, 0, [value, 0])
+    }
+
+    /// A statement of a string.
+    fn string(&mut self, _most: usize) -> u32 {
+        let string = self.put(STRING, 0, [0, 0]);
+        self.put(EXPRESSION, 0, [string, 0])
     }
 
     /// Statements of scripts that are read, as long as they fit, and simple ones.
@@ -134,12 +175,12 @@ impl Maker {
             let mut pool = vec![0; 2 * ROW * tokens.len()];
             let answer = readers::plain(&tokens, &mut pool);
             let added = answer[2] as usize - 1;
-            if self.words.len() / ROW + added > rows - 1 {
+            if added > self.left(rows) {
                 break;
             }
             statements.extend(self.copy(&pool[..ROW * added], pool[ROW * added + CHILD]));
         }
-        while self.words.len() / ROW < rows - 1 {
+        while self.left(rows) > 0 {
             statements.push(self.put(BREAK, 0, [0, 0]));
         }
         self.block(&statements);

@@ -90,7 +90,7 @@ pub fn print(samples: usize) {
     let writers = Writer::all();
     println!("Processor time, best of {} samples. Each tree is in a pool of just its rows, and lent just the room that", samples);
     println!("its tokens take.\n\n{:32}ns a row\n{}", "", head(&writers));
-    for shape in Shape::ALL {
+    for shape in Shape::SCRIPTS {
         let measured = |&rows: &usize| line(shape, rows, &writers, samples);
         let lines: Vec<Line> = SIZES.iter().map(measured).collect();
         for line in &lines {

@@ -30,6 +30,7 @@ extern "C" {
    The text                          0, its length, 1 where it is the front of `work` and 0 where it is the payload, 0
    The check of a tree               0, 0, 0, 0
    The writer                        0, count of tokens, 0, 0
+   The JSON text of a tree           0, its length, 0, 0
    A refusal                         its number, its place, 0, 0 */
 enum { SHIGTHAPUL_ANSWER_WORDS = 4 };
 
@@ -39,6 +40,10 @@ enum { SHIGTHAPUL_ANSWER_WORDS = 4 };
    counted, are enough for any script. No row is written as more than SHIGTHAPUL_ROW_TOKENS tokens, so that many for each
    row of a tree are enough to write it.
 
+   In a JSON text no row takes more than SHIGTHAPUL_ROW_BYTES bytes beside its payload, and no payload more than
+   SHIGTHAPUL_PAYLOAD_BYTES for each byte of its field. So that many for each row and for each byte of the token file are
+   enough for the text of a tree in which no two rows name the same field, and every tree that was read is such a one.
+
    A row had eight words before it had its end: a program that was built then has to be built anew. */
 enum {
     SHIGTHAPUL_ROW_WORDS = 9,
@@ -46,7 +51,9 @@ enum {
     SHIGTHAPUL_MOST_ROWS = 65535,
     SHIGTHAPUL_SMALL_ROWS = 4096, /* what the functions for threads with little stack look at */
     SHIGTHAPUL_TOKEN_WORDS = 2 * SHIGTHAPUL_ROW_WORDS,
-    SHIGTHAPUL_ROW_TOKENS = 6
+    SHIGTHAPUL_ROW_TOKENS = 6,
+    SHIGTHAPUL_ROW_BYTES = 71,
+    SHIGTHAPUL_PAYLOAD_BYTES = 6
 };
 
 /* The mode, which the three functions below take as `strict`. In the old mode, false, any token closes a call that has
@@ -104,6 +111,30 @@ void shigthapul_write(const uint32_t *pool, size_t pool_len, size_t root, uint16
 void shigthapul_check_small(const uint32_t *pool, size_t pool_len, size_t root, uint64_t *answer, size_t answer_len);
 void shigthapul_write_small(const uint32_t *pool, size_t pool_len, size_t root, uint16_t *words, size_t words_len,
                             uint32_t *places, size_t places_len, uint64_t *answer, size_t answer_len);
+
+/* Checks a tree as shigthapul_check does, and writes it as one JSON text (RFC 8259) into the front of `text`. Each row is
+   an object: the kind by its name, the mark, the place, the payload if the kind has one, and the children. `file` is the
+   token file with the payloads, at most 60,000 bytes: a row's place is the number of the field that has its payload. It
+   needn't be the file that the tree was read from, nor a script, but its fields must be good. docs/GUIDE.md says what a
+   text looks like, and docs/tree.schema.json is a schema of it.
+
+   The bytes behind the text become 0, and after a refusal every byte of `text` is 0. What is looked at comes in this order:
+
+   SHIGTHAPUL_REFUSED_TOO_LONG, _BAD_FIELD, _NOT_UNICODE   the file, as by shigthapul_read_file
+   SHIGTHAPUL_REFUSED_NO_TREE     as by shigthapul_check; and at a row whose place is no field, or one of another class
+                                  than its payload needs. The lowest bad row counts, whatever is wrong with it
+   SHIGTHAPUL_REFUSED_DEEP_TREE   at the lowest row with more than 128 rows on the path from the root to it, both counted
+   SHIGTHAPUL_REFUSED_TOO_SHORT   at 0, where the text is longer than `text`
+
+   The text is well-formed UTF-8 and a JSON text by the RFC's grammar, and none of its bytes is 0, which is proved: with a
+   byte of room behind it, it is a string of C's. Ints may have 64 bits: take a JSON reader that doesn't round them. */
+void shigthapul_json(const uint32_t *pool, size_t pool_len, size_t root, const uint8_t *file, size_t file_len,
+                     uint8_t *text, size_t text_len, uint64_t *answer, size_t answer_len);
+
+/* The same for threads with little stack: it looks only at the first SHIGTHAPUL_SMALL_ROWS rows of the pool, as if it had
+   no more, and so takes no more stack for a larger pool. docs/GUIDE.md says how much. */
+void shigthapul_json_small(const uint32_t *pool, size_t pool_len, size_t root, const uint8_t *file, size_t file_len,
+                           uint8_t *text, size_t text_len, uint64_t *answer, size_t answer_len);
 
 /* The answer of any of them: pass `words` and SHIGTHAPUL_ANSWER_WORDS. */
 struct shigthapul_answer {

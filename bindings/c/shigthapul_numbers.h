@@ -49,7 +49,8 @@
     X(SHIGTHAPUL_REFUSED_WRONG_SIGN, 30, "a call with arguments: no ); while, foreach, finally: no {") \
     X(SHIGTHAPUL_REFUSED_TOO_SHORT, 32, "no room for what is written") \
     X(SHIGTHAPUL_REFUSED_NOT_UNICODE, 33, "the token file: a text or a Char that is not Unicode") \
-    X(SHIGTHAPUL_REFUSED_NO_TREE, 38, "not a tree: the root, or a row that it reaches")
+    X(SHIGTHAPUL_REFUSED_DEEP_TREE, 34, "too deep for a JSON text: more than 128 rows on a path") \
+    X(SHIGTHAPUL_REFUSED_NO_TREE, 38, "not a tree: the root, or a row that it reaches; or no field for its payload")
 SHIGTHAPUL_TABLE(refusal, SHIGTHAPUL_REFUSALS)
 
 /* The kinds of rows, with what their children are. A list is the child and the rows behind it by next words. */

@@ -5,6 +5,7 @@
 
 #include "counted.h"
 #include "shigthapul.h"
+#include "told.h"
 
 enum {
     A = SHIGTHAPUL_CLASS_IDENTIFIER << 8,
@@ -190,12 +191,75 @@ static void test_tree(void) {
     CHECK(shigthapul_refusal(&answer) == SHIGTHAPUL_REFUSED_NO_TREE && shigthapul_place(&answer) == 2);
 }
 
+static void test_json(void) {
+    const uint8_t file[] = {7, 0, 2, 0xC3, 0xA9};
+    const char expected[] = "{\"kind\":\"identifier\",\"mark\":0,\"place\":0,\"payload\":\"\xC3\xA9\"}";
+    struct shigthapul_row leaf = {.kind = SHIGTHAPUL_KIND_IDENTIFIER, .end = 9};
+    uint8_t text[60];
+    struct shigthapul_answer answer;
+    shigthapul_put_row(pool, 1, &leaf);
+    memset(text, 7, sizeof text);
+    shigthapul_json(pool, LENGTH(pool), 1, file, LENGTH(file), text, LENGTH(text), ANSWER(answer));
+    size_t length = shigthapul_count(&answer);
+    CHECK(shigthapul_is_accepted(&answer) && length == strlen(expected));
+    CHECK(strcmp((const char *)text, expected) == 0 && are_all(text + length, LENGTH(text) - length, 0));
+    shigthapul_json_small(pool, LENGTH(pool), 1, file, LENGTH(file), text, length - 1, ANSWER(answer));
+    CHECK(shigthapul_refusal(&answer) == SHIGTHAPUL_REFUSED_TOO_SHORT && shigthapul_place(&answer) == 0);
+    CHECK(shigthapul_count(&answer) == 0 && are_all(text, length - 1, 0) && text[length - 1] == '}');
+    shigthapul_json(pool, LENGTH(pool), 1, file, LENGTH(file) - 1, text, LENGTH(text), ANSWER(answer));
+    CHECK(shigthapul_refusal(&answer) == SHIGTHAPUL_REFUSED_BAD_FIELD && are_all(text, LENGTH(text), 0));
+    leaf.place = 1;
+    shigthapul_put_row(pool, 1, &leaf);
+    shigthapul_json_small(pool, LENGTH(pool), 1, file, LENGTH(file), text, LENGTH(text), ANSWER(answer));
+    CHECK(shigthapul_refusal(&answer) == SHIGTHAPUL_REFUSED_NO_TREE && shigthapul_place(&answer) == 1);
+}
+
+/* The rows of a pool that nests, by the most that a path may have, and the room for its text. */
+enum { PATH = 128, NEST = 2 * PATH + 1, NEST_ROOM = SHIGTHAPUL_ROW_BYTES * NEST };
+
+/* By both functions, the answer to a nest of names, and what it leaves. */
+static void check_nest(const uint32_t *nest, uint32_t root, uint32_t refusal, size_t place) {
+    const uint8_t file[] = {7, 0, 1, 'a'};
+    static uint8_t text[NEST_ROOM];
+    struct shigthapul_answer answer, small;
+    size_t words = (size_t)SHIGTHAPUL_ROW_WORDS * root;
+    shigthapul_json_small(nest, words, root, file, LENGTH(file), text, LENGTH(text), ANSWER(small));
+    memset(text, 7, sizeof text);
+    shigthapul_json(nest, words, root, file, LENGTH(file), text, LENGTH(text), ANSWER(answer));
+    size_t length = shigthapul_count(&answer);
+    CHECK(memcmp(&answer, &small, sizeof small) == 0 && shigthapul_refusal(&answer) == refusal);
+    CHECK(refusal == 0 ? length > 0 && text[length - 1] == '}' : shigthapul_place(&answer) == place);
+    CHECK(are_all(text + length, LENGTH(text) - length, 0));
+}
+
+/* A name behind `!`, and names in a chain, as often as to have 128 rows on a path and one more. */
+static void test_deep_json(void) {
+    static uint32_t nest[NEST * SHIGTHAPUL_ROW_WORDS];
+    const struct shigthapul_row leaf = {.kind = SHIGTHAPUL_KIND_IDENTIFIER};
+    shigthapul_put_row(nest, 1, &leaf);
+    for (uint32_t root = 2; root <= PATH + 1; root++) {
+        struct shigthapul_row not = {.kind = SHIGTHAPUL_KIND_PREFIX, .children = {root - 1}};
+        not.mark = SHIGTHAPUL_PREFIX_NOT;
+        shigthapul_put_row(nest, root, &not);
+    }
+    check_nest(nest, PATH, 0, 0);
+    check_nest(nest, PATH + 1, SHIGTHAPUL_REFUSED_DEEP_TREE, 1);
+    for (uint32_t root = 3; root <= NEST; root += 2) {
+        struct shigthapul_row sum = {.kind = SHIGTHAPUL_KIND_INFIX, .children = {root - 2, root - 1}};
+        shigthapul_put_row(nest, root - 1, &leaf);
+        shigthapul_put_row(nest, root, &sum);
+    }
+    check_nest(nest, NEST - 2, 0, 0);
+    check_nest(nest, NEST, SHIGTHAPUL_REFUSED_DEEP_TREE, 1);
+}
+
 static void test_numbers(void) {
     CHECK(sizeof(struct shigthapul_row) == SHIGTHAPUL_ROW_WORDS * sizeof pool[0]);
     CHECK(shigthapul_word(SHIGTHAPUL_CLASS_KEYWORD, SHIGTHAPUL_KAsync) == 0x091B);
     CHECK(strcmp(shigthapul_symbol_text(SHIGTHAPUL_SImpl), "=>") == 0);
     CHECK(strcmp(shigthapul_kind_text(SHIGTHAPUL_KIND_FOREACH), "foreach") == 0);
     CHECK(strcmp(shigthapul_refusal_text(7), "?") == 0 && strcmp(shigthapul_refusal_text(31), "?") == 0);
+    CHECK(strncmp(shigthapul_refusal_text(34), "too deep for a JSON text", 24) == 0);
 }
 
 static void test_short_answer(void) {
@@ -203,6 +267,9 @@ static void test_short_answer(void) {
     uint64_t words[] = {9, 9, 9};
     shigthapul_whole_script(empty, LENGTH(empty), pool, LENGTH(pool), true, words, 2);
     CHECK(words[0] == 0 && words[1] == 1 && words[2] == 9);
+    uint8_t none[1] = {9};
+    shigthapul_json(pool, LENGTH(pool), 0, FIELDS, 0, none, 0, words, 1);
+    CHECK(words[0] == SHIGTHAPUL_REFUSED_NO_TREE && words[1] == 1 && words[2] == 9 && *none == 9);
 }
 
 int main(void) {
@@ -216,6 +283,8 @@ int main(void) {
     test_cut_fields();
     test_text();
     test_tree();
+    test_json();
+    test_deep_json();
     test_numbers();
     test_short_answer();
     return print_counts();

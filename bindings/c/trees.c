@@ -6,14 +6,11 @@
 #include <string.h>
 
 #include "counted.h"
+#include "pooled.h"
 #include "spelled.h"
 
-/* The pool has a few words left over, and the buffers room for more tokens than any example has. */
-enum { ROWS = 16, LEFT_OVER = 3, POOL = ROWS * SHIGTHAPUL_ROW_WORDS + LEFT_OVER, ROOM = 64, DIRT = 7 };
-
-/* The pool of an example. */
-static uint32_t pool[POOL];
-static size_t pool_length;
+/* The buffers have room for more tokens than any example has. */
+enum { ROOM = 64, DIRT = 7 };
 
 /* An example: its text, the root, the room that is lent, and the answer, 0 and the count of tokens or a refusal. */
 static struct {
@@ -28,24 +25,6 @@ static struct {
 static void check(bool holds, const char *what) {
     if (!counted(holds))
         printf("%s: %s\n", what, example.text);
-}
-
-/* Takes a line with the rows of a pool apart. */
-static void parse_rows(const char *text) {
-    size_t row = 0, word = 0;
-    memset(pool, 0, sizeof pool);
-    while (*text != '\0') {
-        char *rest;
-        unsigned long number = strtoul(text, &rest, 10);
-        if (rest != text)
-            pool[SHIGTHAPUL_ROW_WORDS * row + word++] = (uint32_t)number;
-        else if (*rest++ == '/')
-            row++, word = 0;
-        text = rest;
-    }
-    pool_length = SHIGTHAPUL_ROW_WORDS * (row + 1) + LEFT_OVER;
-    for (size_t left = pool_length - LEFT_OVER; left < pool_length; left++)
-        pool[left] = DIRT;
 }
 
 /* Takes what is written apart: the tokens, EOF behind them, and behind a bar the places that aren't 0. */

@@ -14,9 +14,9 @@ pub const MOST_ROWS: usize = 1_800;
 pub const HEAD: usize = 3;
 
 /// The refusals of a file.
-const BAD_FIELD: u32 = 5;
-const TOO_LONG: u32 = 6;
-const NOT_UNICODE: u32 = 33;
+pub const BAD_FIELD: u32 = 5;
+pub const TOO_LONG: u32 = 6;
+pub const NOT_UNICODE: u32 = 33;
 
 /// The classes whose payload must be Unicode: that of characters, and those of texts.
 pub const CHARACTER: u16 = 6;
@@ -33,34 +33,52 @@ fn length_of(class: u16) -> Option<usize> {
     }
 }
 
-/// The words of a file's fields; or the number and place of its refusal.
-pub fn fields(file: &[u8]) -> Result<Vec<u16>, (u32, u32)> {
+/// A field of a file.
+#[derive(Clone, Copy, Debug)]
+pub struct Field<'a> {
+    pub class: u16,
+    pub payload: &'a [u8],
+}
+
+impl Field<'_> {
+    /// Its token word.
+    fn word(self) -> u16 {
+        let coded = self.class == words::OPERATOR || self.class == words::KEYWORD;
+        let code = if coded { u16::from(self.payload[0]) } else { 0 };
+        self.class << 8 | code
+    }
+}
+
+/// The fields of a file; or the number and place of its refusal.
+pub fn fields(file: &[u8]) -> Result<Vec<Field<'_>>, (u32, u32)> {
     if file.len() > MOST_BYTES {
         return Err((TOO_LONG, 0));
     }
     let (mut rest, mut found) = (file, vec![]);
     while !rest.is_empty() {
-        let (word, behind) = first_field(rest).map_err(|number| (number, found.len() as u32))?;
-        found.push(word);
+        let (field, behind) = first_field(rest).map_err(|number| (number, found.len() as u32))?;
+        found.push(field);
         rest = behind;
     }
     Ok(found)
 }
 
-/// The first field's word and what follows the field; or the number of its refusal.
-fn first_field(file: &[u8]) -> Result<(u16, &[u8]), u32> {
-    let (class, payload, behind) = parts(file).ok_or(BAD_FIELD)?;
-    if !is_unicode(class, payload) {
-        return Err(NOT_UNICODE);
-    }
-    let coded = class == words::OPERATOR || class == words::KEYWORD;
-    let code = if coded { u16::from(payload[0]) } else { 0 };
-    Ok((class << 8 | code, behind))
+/// The words of a file's fields; or its refusal.
+fn words_in(file: &[u8]) -> Result<Vec<u16>, (u32, u32)> {
+    Ok(fields(file)?.into_iter().map(Field::word).collect())
 }
 
-/// The first field's class and payload, and what follows the field; None if it is cut short or not
-/// a right one.
-fn parts(file: &[u8]) -> Option<(u16, &[u8], &[u8])> {
+/// The first field and what follows it; or the number of its refusal.
+fn first_field(file: &[u8]) -> Result<(Field<'_>, &[u8]), u32> {
+    let (field, behind) = parts(file).ok_or(BAD_FIELD)?;
+    if !is_unicode(field) {
+        return Err(NOT_UNICODE);
+    }
+    Ok((field, behind))
+}
+
+/// The first field, and what follows it; None if it is cut short or not a right one.
+fn parts(file: &[u8]) -> Option<(Field<'_>, &[u8])> {
     let head = file.get(..HEAD)?;
     let class = u16::from(head[0]);
     let length = usize::from(u16::from_be_bytes([head[1], head[2]]));
@@ -68,20 +86,20 @@ fn parts(file: &[u8]) -> Option<(u16, &[u8], &[u8])> {
         return None;
     }
     let payload = file.get(HEAD..HEAD + length)?;
-    Some((class, payload, &file[HEAD + length..]))
+    Some((Field { class, payload }, &file[HEAD + length..]))
 }
 
 /// Whether a payload is Unicode where its class asks for that, by Rust's own library.
-fn is_unicode(class: u16, payload: &[u8]) -> bool {
-    match class {
-        CHARACTER => char::from_u32(number(payload)).is_some(),
-        text if TEXTS.contains(&text) => std::str::from_utf8(payload).is_ok(),
+fn is_unicode(field: Field) -> bool {
+    match field.class {
+        CHARACTER => char::from_u32(number(field.payload)).is_some(),
+        text if TEXTS.contains(&text) => std::str::from_utf8(field.payload).is_ok(),
         _ => true,
     }
 }
 
 /// The number that four bytes are, the high one first.
-fn number(payload: &[u8]) -> u32 {
+pub fn number(payload: &[u8]) -> u32 {
     payload.iter().fold(0, |number, &byte| number << 8 | u32::from(byte))
 }
 
@@ -103,7 +121,7 @@ pub fn tagged(class: u16, payload: &[u8]) -> Vec<u8> {
 
 /// What the printing program writes to a file.
 pub fn outline(file: &[u8]) -> String {
-    match fields(file) {
+    match words_in(file) {
         Err((number, place)) => format!("no {} {}\n", number, place),
         Ok(tokens) => {
             let pool = MOST_ROWS * ROW;
@@ -149,7 +167,7 @@ mod tests {
     #[test]
     fn every_word_comes_back() {
         let all = all_but_eof();
-        assert_eq!(fields(&file(&all)), Ok(all));
+        assert_eq!(words_in(&file(&all)), Ok(all));
     }
 
     #[test]

@@ -6,7 +6,7 @@ pub mod lengths;
 mod limits;
 mod loose;
 mod nesting;
-mod payloads;
+pub mod payloads;
 pub mod rng;
 pub mod token_files;
 

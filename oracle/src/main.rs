@@ -6,12 +6,14 @@ mod examples;
 mod files;
 mod gen;
 mod groups;
+mod json;
 mod judge;
 mod kinds;
 mod lexer;
 mod model;
 mod original;
 mod places;
+mod questions;
 mod record;
 mod selfcheck;
 mod show;
@@ -108,7 +110,8 @@ fn run(arguments: &[String]) -> io::Result<bool> {
             Ok(compare::compare(&mut io::stdin().lock(), &mut answers)? == 0)
         }
         _ => trees::run(command, rest)
-            .unwrap_or_else(|| Err(wrong(format!("{}{}", USAGE, trees::USAGE)))),
+            .or_else(|| json::run(command, rest))
+            .unwrap_or_else(|| Err(wrong(format!("{}{}{}", USAGE, trees::USAGE, json::USAGE)))),
     }
 }
 
@@ -124,6 +127,12 @@ fn told(done: Result<impl std::fmt::Display, String>) -> bool {
 /// The number behind an option.
 fn number<T: std::str::FromStr>(option: &str, value: &str) -> io::Result<T> {
     value.parse().map_err(|_| wrong(format!("{} wants a number, not {}", option, value)))
+}
+
+/// The kind of a name.
+fn kind<K: Copy>(kinds: &[(&str, K)], name: &str) -> io::Result<K> {
+    let found = kinds.iter().find(|(known, _)| *known == name);
+    found.map(|(_, kind)| *kind).ok_or_else(|| wrong(format!("no kind {}", name)))
 }
 
 /// The mode of a name.
@@ -147,10 +156,7 @@ fn rows(name: &str) -> io::Result<gen::Rows> {
 
 /// Reads the kind and the options of `gen`.
 fn wish(arguments: &[String]) -> io::Result<gen::Wish> {
-    let name = &arguments[0];
-    let found = gen::KINDS.iter().find(|(known, _)| known == name);
-    let (_, kind) = *found.ok_or_else(|| wrong(format!("no kind {}", name)))?;
-    let mut wish = gen::Wish::of(kind, 1);
+    let mut wish = gen::Wish::of(kind(&gen::KINDS, &arguments[0])?, 1);
     for pair in arguments[1..].chunks(2) {
         match pair {
             [option, value] if option == "--seed" => wish.seed = number(option, value)?,
@@ -167,14 +173,9 @@ fn wish(arguments: &[String]) -> io::Result<gen::Wish> {
 fn choice(arguments: &[String]) -> io::Result<record::Choice> {
     let mut choice = record::Choice::default();
     for pair in arguments.chunks(2) {
-        match pair {
-            [option, value] if option == "--every" => choice.every = number(option, value)?,
-            [option, value] if option == "--most" => choice.most = number(option, value)?,
-            _ => return Err(wrong(format!("unknown option {}\n{}", pair.join(" "), USAGE))),
+        if !choice.take(pair)? {
+            return Err(wrong(format!("unknown option {}\n{}", pair.join(" "), USAGE)));
         }
-    }
-    if choice.every == 0 {
-        return Err(wrong("--every wants a number above 0".into()));
     }
     Ok(choice)
 }

@@ -5,6 +5,7 @@ use crate::compare::describe;
 use crate::judge::{self, OURS};
 use crate::model::{Mode, ROW};
 use crate::signs::Missing;
+use crate::{number, wrong};
 use std::collections::BTreeMap;
 use std::fmt;
 use std::io::{self, Read, Write};
@@ -27,6 +28,19 @@ impl Default for Choice {
 const WORD: usize = 4;
 
 impl Choice {
+    /// Takes an option that is about the choice, with its value; false if it is another.
+    pub fn take(&mut self, pair: &[String]) -> io::Result<bool> {
+        match pair {
+            [option, value] if option == "--every" => self.every = number(option, value)?,
+            [option, value] if option == "--most" => self.most = number(option, value)?,
+            _ => return Ok(false),
+        }
+        if self.every == 0 {
+            return Err(wrong("--every wants a number above 0".into()));
+        }
+        Ok(true)
+    }
+
     /// Whether a record of so many bytes, so many words of rows among them, isn't too long.
     pub fn takes(&self, bytes: usize, words: usize) -> bool {
         bytes - WORD * (words / ROW) <= self.most

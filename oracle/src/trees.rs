@@ -1,21 +1,21 @@
 //! Trees in pools: the check of a tree and its written form, modelled from their readings, with
 //! generators, the round trip, and the records that the program `retrace` reads.
 mod backward;
-mod case;
-mod check;
+pub mod case;
+pub mod check;
 mod commands;
 mod damage;
-mod examples;
-mod gen;
-mod grow;
-mod held;
+pub mod examples;
+pub mod gen;
+pub mod grow;
+pub mod held;
 mod judge;
 mod large;
 mod layout;
-mod pool;
+pub mod pool;
 mod record;
 mod selfcheck;
-mod slots;
+pub mod slots;
 mod table;
 mod tally;
 mod write;
@@ -23,5 +23,5 @@ mod write;
 pub use commands::{run, USAGE};
 
 /// The refusal of rows that are no tree, and that of a slice that is too short.
-const NO_TREE: u32 = 38;
-const NO_ROOM: u32 = 32;
+pub const NO_TREE: u32 = 38;
+pub const NO_ROOM: u32 = 32;

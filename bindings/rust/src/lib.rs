@@ -6,8 +6,8 @@
 //! word of the pool is zero. No input makes these functions panic. A [`Mode`] says by which rules is
 //! read: the original's, or strict ones. [`Node::place`] is that of the token which a node stands for,
 //! and [`Node::end`] says where its piece of the script ends. A tree, also one that was changed, goes
-//! back to tokens by [`Tree::to_tokens`], [`check()`] and [`write()`]. A [`TokenFile`] has the tokens
-//! with their names and texts.
+//! back to tokens by [`Tree::to_tokens`], [`check()`] and [`write()`], and becomes a JSON text by
+//! [`Tree::to_json`] and [`json()`]. A [`TokenFile`] has the tokens with their names and texts.
 //!
 //! ```
 //! use shigthapul::{whole_script, Infix, Kind, Mode, Symbol, Token, TOKEN_WORDS};
@@ -41,6 +41,7 @@ mod table;
 mod answer;
 mod entries;
 mod files;
+mod json;
 mod kind;
 mod mode;
 pub mod raw;
@@ -56,10 +57,12 @@ mod writing;
 
 pub use entries::{one_expression, one_statement, whole_script};
 pub use files::read_file;
+pub use json::{json, json_small};
 pub use kind::{Infix, Kind, Prefix, Suffix};
 pub use mode::Mode;
 pub use refusal::{Reason, Refusal};
 pub use sizes::{MOST_ROWS, ROW_TOKENS, ROW_WORDS, SMALL_ROWS, TOKEN_WORDS};
+pub use sizes::{PAYLOAD_BYTES, ROW_BYTES};
 pub use text::{fold, text};
 pub use token::{Keyword, Symbol, Token};
 pub use tokens::{script_text, Tokens};

@@ -1,4 +1,5 @@
-//! The ten C functions as they are, over slices; with `unicode.rs` the only unsafe code of this crate.
+//! The twelve C functions as they are, over slices; with `unicode.rs` and `json.rs` the only unsafe code
+//! of this crate.
 //!
 //! Each writes the four words of its answer to the front of `answer`, as far as that goes; words
 //! behind the fourth stay as they were. The functions of the crate's root are built on these.
@@ -112,6 +113,28 @@ extern "C" {
         words_len: usize,
         places: *mut u32,
         places_len: usize,
+        answer: *mut u64,
+        answer_len: usize,
+    );
+    fn shigthapul_json(
+        pool: *const u32,
+        pool_len: usize,
+        root: usize,
+        file: *const u8,
+        file_len: usize,
+        text: *mut u8,
+        text_len: usize,
+        answer: *mut u64,
+        answer_len: usize,
+    );
+    fn shigthapul_json_small(
+        pool: *const u32,
+        pool_len: usize,
+        root: usize,
+        file: *const u8,
+        file_len: usize,
+        text: *mut u8,
+        text_len: usize,
         answer: *mut u64,
         answer_len: usize,
     );
@@ -277,6 +300,43 @@ pub fn write_small(
             words.len(),
             places.as_mut_ptr(),
             places.len(),
+            answer.as_mut_ptr(),
+            answer.len(),
+        )
+    }
+}
+
+/// Writes the tree at a root as a JSON text, with the payloads of a token file: 0 and the length of the
+/// text; or a refusal's number and place.
+pub fn json(pool: &[u32], root: usize, file: &[u8], text: &mut [u8], answer: &mut [u64]) {
+    // SAFETY: see the head of this module.
+    unsafe {
+        shigthapul_json(
+            pool.as_ptr(),
+            pool.len(),
+            root,
+            file.as_ptr(),
+            file.len(),
+            text.as_mut_ptr(),
+            text.len(),
+            answer.as_mut_ptr(),
+            answer.len(),
+        )
+    }
+}
+
+/// The same over the first 4,096 rows of the pool, with little stack.
+pub fn json_small(pool: &[u32], root: usize, file: &[u8], text: &mut [u8], answer: &mut [u64]) {
+    // SAFETY: see the head of this module.
+    unsafe {
+        shigthapul_json_small(
+            pool.as_ptr(),
+            pool.len(),
+            root,
+            file.as_ptr(),
+            file.len(),
+            text.as_mut_ptr(),
+            text.len(),
             answer.as_mut_ptr(),
             answer.len(),
         )

@@ -42,19 +42,21 @@ table! {
         ContinueWithoutSemicolon = 29, "continue: no ;";
         /// In strict mode only: [`Mode::Strict`](crate::Mode::Strict) says which calls and bodies.
         WrongSign = 30, "a call with arguments: no ); while, foreach, finally: no {";
-        /// A buffer of token words or of places is too short for a tree.
+        /// A buffer of token words or of places is too short for a tree, or one of bytes for its JSON text.
         TooShort = 32, "no room for what is written";
         /// A Str, an Identifier or an Unknown that is not well-formed UTF-8, or a Char that is no scalar value.
         NotUnicode = 33, "the token file: a text or a Char that is not Unicode";
-        /// [`check`](crate::check) says what a tree is.
-        NoTree = 38, "not a tree: the root, or a row that it reaches";
+        /// Of [`json`](crate::json) only, which says what a path is.
+        DeepTree = 34, "too deep for a JSON text: more than 128 rows on a path";
+        /// [`check`](crate::check) says what a tree is, and [`json`](crate::json) which payload needs which field.
+        NoTree = 38, "not a tree: the root, or a row that it reaches; or no field for its payload";
     }
 }
 
 /// A refusal: its reason, and its place.
 ///
 /// The place is that of a token, from 0; for [`Reason::BadField`] and [`Reason::NotUnicode`] it is
-/// that of a field, and for [`Reason::NoTree`] the reference of a row.
+/// that of a field, and for [`Reason::NoTree`] and [`Reason::DeepTree`] the reference of a row.
 ///
 /// ```
 /// use shigthapul::{one_expression, Mode, Reason, Refusal, Symbol, Token, ROW_WORDS};

@@ -1,4 +1,5 @@
 //! The tree that an entry laid out in the pool: its rows, and the way from a row to its children.
+use crate::json::json_of;
 use crate::walk::{List, Walk};
 use crate::writing::tokens_of;
 use crate::{Infix, Kind, Prefix, Refusal, Suffix, Tokens, ROW_WORDS};
@@ -193,6 +194,25 @@ impl<'a> Tree<'a> {
     /// brackets, every simple statement with its semicolon. A tree with no root is refused.
     pub fn to_tokens(self) -> Result<Tokens, Refusal> {
         tokens_of(self.words, self.root)
+    }
+
+    /// The tree as a JSON text, as [`json`](crate::json) writes it, with the payloads of the token file
+    /// that it was read from. A tree with no root is refused.
+    ///
+    /// ```
+    /// use shigthapul::{one_expression, Mode, TokenFile, ROW_WORDS};
+    ///
+    /// // `"C:\\temp"` and EOF
+    /// let bytes = b"\x04\0\x08C:\\\\temp\x02\0\0";
+    /// let mut words = [0; 2];
+    /// let file = TokenFile::read(bytes, &mut words).unwrap();
+    /// let mut pool = [0; ROW_WORDS];
+    /// let tree = one_expression(file.words(), &mut pool, 0, Mode::Strict).unwrap();
+    /// let text = r#"{"kind":"string","mark":0,"place":0,"payload":"C:\\temp"}"#;
+    /// assert_eq!(tree.to_json(bytes).unwrap(), text);
+    /// ```
+    pub fn to_json(self, file: &[u8]) -> Result<String, Refusal> {
+        json_of(self.words, self.root, file)
     }
 }
 

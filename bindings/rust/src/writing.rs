@@ -136,4 +136,9 @@ impl<'a> Checked<'a> {
     pub fn to_tokens(self) -> Result<Tokens, Refusal> {
         self.tree.to_tokens()
     }
+
+    /// The tree as a JSON text, with the payloads of a token file.
+    pub fn to_json(self, file: &[u8]) -> Result<String, Refusal> {
+        self.tree.to_json(file)
+    }
 }

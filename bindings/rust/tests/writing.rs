@@ -1,5 +1,6 @@
 //! The check of a tree and the writer: the worked examples of `oracle/trees.txt`, and the edges.
 mod common;
+use common::pools::{breaks, no_tree, number, pool_of, row, rows_of, trees};
 use common::{text_of, words, DIRT};
 use shigthapul::{check, check_small, raw, write, write_small};
 use shigthapul::{Keyword, Kind, Reason, Refusal, Row, Symbol, Token};
@@ -15,21 +16,6 @@ type Answer = Result<(Vec<u16>, Vec<u32>), Refusal>;
 type Write = fn(&[u32], u32, &mut [u16], &mut [u32]) -> Result<usize, Refusal>;
 
 const NO_ROOM: Refusal = Refusal { reason: Reason::TooShort, place: 0 };
-
-/// The refusal of a pool that is no tree.
-fn no_tree(place: usize) -> Refusal {
-    Refusal { reason: Reason::NoTree, place }
-}
-
-/// The words of some rows, with three words left over.
-fn pool_of(rows: &[Row]) -> Vec<u32> {
-    rows.iter().flat_map(|row| row.words()).chain([DIRT; 3]).collect()
-}
-
-/// A row of a kind with children.
-fn row(kind: Kind, children: [u32; 4]) -> Row {
-    Row { children, ..Row::new(kind, 0) }
-}
 
 /// Writes a tree into dirty buffers with so much room; what is behind the tokens must have become zero,
 /// and after a refusal all must.
@@ -71,20 +57,6 @@ fn in_every_way(pool: &[u32], root: u32) -> Answer {
         }
     }
     answer
-}
-
-/// The pool of a line of the table.
-fn rows_of(line: &str) -> Vec<u32> {
-    let row = |text: &str| {
-        let mut words: Vec<u32> = text.split_whitespace().map(number).collect();
-        words.resize(ROW_WORDS, 0);
-        words
-    };
-    line.split('/').flat_map(row).collect()
-}
-
-fn number(text: &str) -> u32 {
-    text.parse().unwrap_or_else(|_| panic!("no number: {}", text))
 }
 
 /// The answer of a line of the table.
@@ -156,36 +128,6 @@ fn marks(kind: Kind) -> u32 {
         Kind::Infix => 23,
         _ => 1,
     }
-}
-
-/// A small tree of each kind, its rows before it: the root last.
-fn trees() -> Vec<Vec<Row>> {
-    let name = Row::new(Kind::Identifier, 5);
-    let block = Row::new(Kind::Block, 0);
-    let part = Row::new(Kind::Name, 6);
-    let pair = row(Kind::Pair, [1, 2, 0, 0]);
-    Kind::ALL
-        .iter()
-        .map(|&kind| match kind {
-            Kind::Array => vec![name, row(kind, [1, 0, 0, 0])],
-            Kind::Hash => vec![name, name, pair, row(kind, [3, 0, 0, 0])],
-            Kind::Index | Kind::Call | Kind::Infix | Kind::Lambda | Kind::Pair | Kind::Assert => {
-                vec![name, name, row(kind, [1, 2, 0, 0])]
-            }
-            Kind::Prefix | Kind::Suffix | Kind::Shell | Kind::Const | Kind::Throw => {
-                vec![name, row(kind, [1, 0, 0, 0])]
-            }
-            Kind::Var | Kind::Return | Kind::Expression => vec![name, row(kind, [1, 0, 0, 0])],
-            Kind::Attribute => vec![name, part, row(kind, [1, 2, 0, 0])],
-            Kind::Try => vec![block, name, block, block, row(kind, [1, 2, 3, 4])],
-            Kind::Function | Kind::While => vec![name, block, row(kind, [1, 2, 0, 0])],
-            Kind::For => vec![name, name, block, row(kind, [1, 2, 3, 0])],
-            Kind::If => vec![name, block, block, row(kind, [1, 2, 3, 0])],
-            Kind::ForEach => vec![name, name, name, block, row(kind, [1, 2, 3, 4])],
-            Kind::Block => vec![Row::new(Kind::Break, 0), row(kind, [1, 0, 0, 0])],
-            _ => vec![Row::new(kind, 7)],
-        })
-        .collect()
 }
 
 #[test]
@@ -304,17 +246,6 @@ fn short_and_long_answers() {
         assert_eq!(answer[..written], [38, 0, 0, 0][..written]);
         assert!(answer[written..].iter().all(|&word| word == 9));
     }
-}
-
-/// A pool whose root, the last row, is a block of so many `break ;`.
-fn breaks(count: usize) -> Vec<u32> {
-    let mut rows: Vec<Row> = vec![];
-    for next in 2..=count as u32 {
-        rows.push(Row { next, ..Row::new(Kind::Break, 0) });
-    }
-    rows.push(Row::new(Kind::Break, 0));
-    rows.push(row(Kind::Block, [1, 0, 0, 0]));
-    rows.iter().flat_map(|row| row.words()).collect()
 }
 
 #[test]

@@ -41,7 +41,7 @@ decimal-high zero h = absurd (omega arith)
 decimal-high (suc f) h = digits-high f (suc f) h ∙ ap (λ ds. ds ++ ((48 + suc f % 10) ∷ [])) (digits-same f (suc f / 10) (suc f / 10) (omega arith) (omega arith))
 
 -- induction by the digits of a number
-by-digits : (P : ℕ → Type 0) → ((n : ℕ) → n < 10 → P n) → ((n : ℕ) → 10 ≤ n → P (n / 10) → P n) → (n : ℕ) → P n
+pub by-digits : (P : ℕ → Type 0) → ((n : ℕ) → n < 10 → P n) → ((n : ℕ) → 10 ≤ n → P (n / 10) → P n) → (n : ℕ) → P n
 by-digits P low high n = go n n (omega arith)
   where
     go : (f m : ℕ) → m ≤ f → P m

@@ -1,6 +1,6 @@
 // The text of a string's payload: folding its pairs of backslashes, and handing back what to read.
 ghost use mathlib.Core.Path.{_≡_};
-ghost use Prim.Native.Nat.{_≤_, _<_};
+ghost use Prim.Native.Nat.{_≤_};
 ghost use lib.ListN.{length, drop};
 ghost use Rattle.text.specs.Fold.{folded, width-of, written};
 ghost use Rattle.text.specs.Entries.{fold-answer, fold-buffer, text-of};
@@ -18,11 +18,13 @@ pub enum Folded {
     Refused(u32, usize),
 }
 
-// How many bytes of the payload make the folded byte at `at`: 2 of a pair, 1 otherwise.
-fn width(payload: &[u8], at: usize) -> usize
-    requires { ⌜ at < length (now payload) ⌝ }
+// How many bytes of the payload make the folded byte at `at`: 2 of a pair, 1 otherwise, and 0 behind the end.
+pub fn width(payload: &[u8], at: usize) -> usize
     ensures { λ r. ⌜ r ≡ width-of (drop at (now (payload .entry))) ⌝ }
 {
+    if payload.len() <= at {
+        return 0;
+    }
     let next = at + 1;
     if next == payload.len() {
         return 1;

@@ -1,7 +1,7 @@
 -- A row holds one tree, and the check has one answer.
 use Prim.Native.Nat.{ℕ}
 use native.Mathlib.Omega.{arith}
-use mathlib.Core.Path.{_≡_, refl, ap, sym, subst, _∙_}
+use mathlib.Core.Path.{_≡_, refl, ap, sym, _∙_}
 use mathlib.Core.Logic.{⊎-elim}
 use mathlib.Core.List.{List}
 use lib.Seq.{ext-getD}
@@ -9,12 +9,11 @@ use Rattle.grammar.specs.Tree.{Tree, infixed, node, Trees, nil, _▸_}
 use Rattle.grammar.specs.Script.{word-of}
 use Rattle.trees.specs.declared.Checked.{Checked}
 use Rattle.trees.specs.declared.Checked.the-variants as answer
-use Rattle.trees.specs.Pool.{Holds, infix-row, row, HoldsAll, none, more}
+use Rattle.trees.specs.Pool.{In, Holds, infix-row, row, HoldsAll, none, more}
 use Rattle.trees.specs.Verdict.{Lowest, NoneBad, Verdict, no-root, bad-row, a-tree}
 use Rattle.trees.specs.Leaves.{Zero, Leaves}
 use Rattle.slots.proofs.Either.{less-or}
 use Rattle.trees.proofs.Links.{one-survey}
-use Rattle.trees.proofs.Answers.{no-tree}
 
 module _ (pool : List ℕ) where
   first-of : {a b : Tree} → a ▸ nil ≡ b ▸ nil → a ≡ b
@@ -68,18 +67,25 @@ one-zero {n} {xs} {ys} a b = ext-getD 0 xs ys (a .long ∙ sym (b .long)) (λ i 
 
 -- a survey has one answer, and leaves one thing
 module _ {pool : List ℕ} {root n : ℕ} where
-  same-links : (c : Checked) {a b q a′ b′ q′ : List ℕ} → Leaves pool root n c a b q → Leaves pool root n c a′ b′ q′ → (a ≡ a′) × (b ≡ b′)
-  same-links answer.Tree l m = one-survey (l .links refl) (m .links refl) (l .owners-long ∙ sym (m .owners-long)) (l .words-long ∙ sym (m .words-long))
-  same-links (answer.Refused k p) l m =
-      let y = l .none no-tree in
-      let z = m .none no-tree in
-      (one-zero (y .0) (z .0), one-zero (y .1) (z .1))
+  same-links : {c c′ : Checked} {a b q a′ b′ q′ : List ℕ} → Leaves pool root n c a b q → Leaves pool root n c′ a′ b′ q′ → (a ≡ a′) × (b ≡ b′)
+  same-links {c} {c′} {a} {b} {q} {a′} {b′} {q′} l m = go (l .verdict)
+    where
+      rooted : In pool root → (a ≡ a′) × (b ≡ b′)
+      rooted i = one-survey (l .links i) (m .links i) (l .owners-long ∙ sym (m .owners-long)) (l .words-long ∙ sym (m .words-long))
+
+      go : {d : Checked} → Verdict pool root d → (a ≡ a′) × (b ≡ b′)
+      go (no-root out) =
+          let y = l .none out in
+          let z = m .none out in
+          (one-zero (y .0) (z .0), one-zero (y .1) (z .1))
+      go (bad-row i p) = rooted i
+      go (a-tree t i g h f) = rooted i
 
   pub one-leaving : {c c′ : Checked} {a b q a′ b′ q′ : List ℕ} → Leaves pool root n c a b q → Leaves pool root n c′ a′ b′ q′
       → _≡_ {A = Checked × List ℕ × List ℕ × List ℕ} (c, a, b, q) (c′, a′, b′, q′)
   one-leaving {c} {c′} {a} {b} {q} {a′} {b′} {q′} l m =
       let e : c ≡ c′ = one-answer pool root (l .verdict) (m .verdict) in
-      let s = same-links c l (subst (λ (k : Checked). Leaves pool root n k a′ b′ q′) (sym e) m) in
+      let s = same-links l m in
       let x = s .0 in
       let y = s .1 in
       let z = one-zero (l .queue-none) (m .queue-none) in

@@ -5,7 +5,7 @@ use mathlib.Core.List.{List}
 use lib.ListN.{length, getD, take}
 use Rattle.grammar.specs.Tree.{width}
 use Rattle.trees.specs.declared.Checked.{Checked}
-use Rattle.trees.specs.declared.Checked.the-variants as answer
+use Rattle.trees.specs.Pool.{In}
 use Rattle.trees.specs.Survey.{Surveyed}
 use Rattle.trees.specs.Verdict.{Verdict}
 
@@ -28,11 +28,11 @@ pub record Cleared (n : ℕ) (owners words queue : List ℕ) : Type 0 where
   pub no-words : Zero n words
   pub no-queue : Zero n queue
 
--- The answer c, and what is left: the links of a tree or zeros after a refusal, and a queue of zeros.
+-- The answer c, and what is left: the links of the rows that the root reaches, zeros where the pool has no such root, and a queue of zeros.
 pub record Leaves (pool : List ℕ) (root n : ℕ) (c : Checked) (owners words queue : List ℕ) : Type 0 where
   pub verdict : Verdict pool root c
   pub owners-long : length owners ≡ n
   pub words-long : length words ≡ n
-  pub links : c ≡ answer.Tree → Surveyed pool root owners words
-  pub none : (c ≡ answer.Tree → ⊥) → Zero n owners × Zero n words
+  pub links : In pool root → Surveyed pool root owners words
+  pub none : (In pool root → ⊥) → Zero n owners × Zero n words
   pub queue-none : Zero n queue

@@ -31,7 +31,7 @@ pub enum Checked {
     Refused(u32, usize),
 }
 
-// Whether the rows that the root reaches are a tree. The links of a tree are left in the memory that is lent, and else zeros.
+// Whether the rows that the root reaches are a tree. Their links are left in the memory that is lent; zeros where there is no such root.
 fn survey(
     pool: &[u32],
     root: usize,
@@ -54,15 +54,14 @@ fn survey(
     }
     walk(pool, root, owners, words, queue);
     let p = first_bad(pool, root, owners, words, queue);
+    clear_words(queue);
     if p == 0 {
-        clear_words(queue);
         return Checked::Tree;
     }
-    clear_all(owners, words, queue);
     Checked::Refused(NO_TREE, p)
 }
 
-// Whether the rows that the root reaches are a tree, and where they are, how each is reached: by which word of which row.
+// Whether the rows that the root reaches are a tree, and how each is reached: by which word of which row.
 pub fn survey_large(
     pool: &[u32],
     root: usize,

@@ -65,10 +65,10 @@ module _ {pool : List ℕ} {root : ℕ} {owners links : List ℕ} (ready : Ready
 
 -- what a survey that finds a tree leaves is what the walk needs
 pub ready-of : {pool : List ℕ} {root n : ℕ} {owners words queue : List ℕ} → Leaves pool root n checked.Tree owners words queue → count pool < n → Ready pool root owners words
-ready-of {pool} {root} {n} {owners} {words} {queue} l h = go (l .verdict) (l .links refl)
+ready-of {pool} {root} {n} {owners} {words} {queue} l h = go (l .verdict)
   where
-    go : Verdict pool root checked.Tree → Surveyed pool root owners words → Ready pool root owners words
-    go (a-tree t i g o f) s =
+    go : Verdict pool root checked.Tree → Ready pool root owners words
+    go (a-tree t i g o f) =
         let x = is-tree pool root i g o f in
         record {
           inside = i;
@@ -78,7 +78,7 @@ ready-of {pool} {root} {n} {owners} {words} {queue} l h = go (l .verdict) (l .li
           fit = f;
           last = x .in-no-list;
           small = no-larger pool root i g o;
-          told = s .each;
+          told = l .links i .each;
           wide = (rw (l .owners-long) h, rw (l .words-long) h);
         }
 

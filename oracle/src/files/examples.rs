@@ -33,7 +33,7 @@ fn example(head: &'static str, expected: &'static str) -> Example {
 }
 
 /// Bytes in hexadecimal, with `N*` in front if they are repeated.
-fn bytes(text: &str) -> Vec<u8> {
+pub fn bytes(text: &str) -> Vec<u8> {
     let (times, digits) = text.split_once('*').unwrap_or(("1", text));
     let byte = |at| u8::from_str_radix(&digits[at..at + 2], 16).expect("hexadecimal digits");
     let once: Vec<u8> = (0..digits.len()).step_by(2).map(byte).collect();

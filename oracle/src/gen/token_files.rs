@@ -73,14 +73,15 @@ impl Maker {
     /// A file: a script's fields, perhaps with some that aren't Unicode, then perhaps damaged or cut.
     fn file(&mut self) -> Vec<u8> {
         let words = self.script();
-        let mut fields: Vec<Vec<u8>> = words.iter().map(|&word| self.field(word)).collect();
+        let mut fields: Vec<Vec<u8>> =
+            words.iter().map(|&word| random_field(&mut self.rng, word)).collect();
         if self.rng.chance(1, 5) {
-            self.spoil(&mut fields);
+            spoil(&mut self.rng, &mut fields);
         }
         let mut file = fields.concat();
         match self.rng.below(8) {
             0 => file.truncate(self.rng.below(file.len() + 1)),
-            1 => self.damage(&mut file),
+            1 => damage_bytes(&mut self.rng, &mut file),
             _ => (),
         }
         file
@@ -103,71 +104,70 @@ impl Maker {
         }
         words
     }
+}
 
-    /// A word's field, with a random payload: a text, a character, or any bytes for a number.
-    fn field(&mut self, word: u16) -> Vec<u8> {
-        let rng = &mut self.rng;
-        match word {
-            CHAR => tagged(CHARACTER, &u32::from(payloads::character(rng)).to_be_bytes()),
-            INTEGER | FLOAT => {
-                let bytes: Vec<u8> = (0..8).map(|_| rng.below(256) as u8).collect();
-                tagged(class(word), &bytes)
-            }
-            _ => {
-                let most = if rng.chance(1, 50) { 300 } else { 6 };
-                field(word, &payloads::text(rng, most))
+/// A word's field, with a random payload: a text, a character, or any bytes for a number.
+pub fn random_field(rng: &mut Rng, word: u16) -> Vec<u8> {
+    match word {
+        CHAR => tagged(CHARACTER, &u32::from(payloads::character(rng)).to_be_bytes()),
+        INTEGER | FLOAT => {
+            let bytes: Vec<u8> = (0..8).map(|_| rng.below(256) as u8).collect();
+            tagged(class(word), &bytes)
+        }
+        _ => {
+            let most = if rng.chance(1, 50) { 300 } else { 6 };
+            field(word, &payloads::text(rng, most))
+        }
+    }
+}
+
+/// A field whose payload isn't Unicode.
+fn no_unicode(rng: &mut Rng) -> Vec<u8> {
+    if rng.chance(1, 4) {
+        tagged(CHARACTER, &payloads::no_character(rng).to_be_bytes())
+    } else {
+        tagged(rng.pick(&TEXTS), &payloads::no_text(rng))
+    }
+}
+
+/// Puts payloads that aren't Unicode into a file: behind its end, in a field that is cut short or
+/// has a wrong length, a character over two fields, or in one to three whole fields.
+pub fn spoil(rng: &mut Rng, fields: &mut Vec<Vec<u8>>) {
+    let at = rng.below(fields.len() + 1);
+    let mut bad = no_unicode(rng);
+    match rng.below(8) {
+        0 => fields.push(bad),
+        1 => {
+            bad.truncate(bad.len() - 1 - rng.below(bad.len() - HEAD));
+            fields.truncate(at);
+            fields.push(bad);
+        }
+        2 => fields.insert(at, tagged(CHARACTER, &[0xD8, 0])),
+        3 => {
+            let halves = payloads::halves(rng);
+            fields.splice(at..at, halves.map(|half| tagged(rng.pick(&TEXTS), &half)));
+        }
+        _ => {
+            fields.insert(at, bad);
+            for _ in 0..rng.below(3) {
+                let other = rng.below(fields.len() + 1);
+                fields.insert(other, no_unicode(rng));
             }
         }
     }
+}
 
-    /// A field whose payload isn't Unicode.
-    fn no_unicode(&mut self) -> Vec<u8> {
-        if self.rng.chance(1, 4) {
-            tagged(CHARACTER, &payloads::no_character(&mut self.rng).to_be_bytes())
-        } else {
-            tagged(self.rng.pick(&TEXTS), &payloads::no_text(&mut self.rng))
-        }
-    }
-
-    /// Puts payloads that aren't Unicode into a file: behind its end, in a field that is cut short or
-    /// has a wrong length, a character over two fields, or in one to three whole fields.
-    fn spoil(&mut self, fields: &mut Vec<Vec<u8>>) {
-        let at = self.rng.below(fields.len() + 1);
-        let mut bad = self.no_unicode();
-        match self.rng.below(8) {
-            0 => fields.push(bad),
-            1 => {
-                bad.truncate(bad.len() - 1 - self.rng.below(bad.len() - HEAD));
-                fields.truncate(at);
-                fields.push(bad);
-            }
-            2 => fields.insert(at, tagged(CHARACTER, &[0xD8, 0])),
-            3 => {
-                let halves = payloads::halves(&mut self.rng);
-                fields.splice(at..at, halves.map(|half| tagged(self.rng.pick(&TEXTS), &half)));
-            }
-            _ => {
-                fields.insert(at, bad);
-                for _ in 0..self.rng.below(3) {
-                    let other = self.rng.below(fields.len() + 1);
-                    fields.insert(other, self.no_unicode());
-                }
-            }
-        }
-    }
-
-    /// Changes, inserts or deletes one to three bytes.
-    fn damage(&mut self, file: &mut Vec<u8>) {
-        for _ in 0..1 + self.rng.below(3) {
-            let limit = if self.rng.chance(1, 2) { 12 } else { 256 };
-            let byte = self.rng.below(limit) as u8;
-            let at = self.rng.below(file.len() + 1);
-            match self.rng.below(4) {
-                0 => file.insert(at, byte),
-                1 if at < file.len() => drop(file.remove(at)),
-                _ if at < file.len() => file[at] = byte,
-                _ => file.push(byte),
-            }
+/// Changes, inserts or deletes one to three bytes.
+pub fn damage_bytes(rng: &mut Rng, file: &mut Vec<u8>) {
+    for _ in 0..1 + rng.below(3) {
+        let limit = if rng.chance(1, 2) { 12 } else { 256 };
+        let byte = rng.below(limit) as u8;
+        let at = rng.below(file.len() + 1);
+        match rng.below(4) {
+            0 => file.insert(at, byte),
+            1 if at < file.len() => drop(file.remove(at)),
+            _ if at < file.len() => file[at] = byte,
+            _ => file.push(byte),
         }
     }
 }
@@ -194,10 +194,11 @@ mod tests {
 
     #[test]
     fn spoilt_files_compete() {
-        let mut maker = Maker { rng: Rng::new(2), all: words::all_but_eof() };
+        let mut rng = Rng::new(2);
         let mut answer = || {
-            let mut fields = vec![maker.field(IDENTIFIER), maker.field(CHAR), plain(&[EOF])];
-            maker.spoil(&mut fields);
+            let mut fields = [IDENTIFIER, CHAR].map(|word| random_field(&mut rng, word)).to_vec();
+            fields.push(plain(&[EOF]));
+            spoil(&mut rng, &mut fields);
             outline(&fields.concat())
         };
         let answers: BTreeSet<String> = (0..300).map(|_| answer()).collect();

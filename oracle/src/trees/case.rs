@@ -47,21 +47,19 @@ fn longest(rows: usize) -> usize {
 }
 
 impl fmt::Display for Case {
-    /// The rows as in the table of examples, a pool that is long only by its length.
     fn fmt(&self, to: &mut fmt::Formatter) -> fmt::Result {
-        let rooms = format!("room for {} and {}", self.words, self.places);
-        if self.pool.len() > 2000 {
-            return write!(
-                to,
-                "root {}, {}, a pool of {} words",
-                self.root,
-                rooms,
-                self.pool.len()
-            );
-        }
-        let rows: Vec<String> = self.pool.chunks(crate::model::ROW).map(row).collect();
-        write!(to, "root {}, {}, rows {}", self.root, rooms, rows.join("/"))
+        let pool = told(&self.pool);
+        write!(to, "root {}, room for {} and {}, {}", self.root, self.words, self.places, pool)
     }
+}
+
+/// The rows of a pool as in the table of examples; one that is long only by its length.
+pub fn told(pool: &[u32]) -> String {
+    if pool.len() > 2000 {
+        return format!("a pool of {} words", pool.len());
+    }
+    let rows: Vec<String> = pool.chunks(crate::model::ROW).map(row).collect();
+    format!("rows {}", rows.join("/"))
 }
 
 /// A row's words, zeros behind the last other one left out.

@@ -41,8 +41,7 @@ pub fn first_bad(pool: Pool, root: usize) -> Option<(usize, Vec<Fault>)> {
     if !pool.has(root) {
         return Some((0, vec![]));
     }
-    let reached = reached(pool, root);
-    let rows: Vec<usize> = (1..=pool.rows()).filter(|&row| reached[row]).collect();
+    let rows = reached_rows(pool, root);
     let (words, stands) = (words_to(pool, root, &rows), stands(pool, root, &rows));
     let faults = |row: usize| {
         let mut faults = own_faults(pool, row);
@@ -51,6 +50,12 @@ pub fn first_bad(pool: Pool, root: usize) -> Option<(usize, Vec<Fault>)> {
         faults
     };
     rows.into_iter().map(|row| (row, faults(row))).find(|(_, faults)| !faults.is_empty())
+}
+
+/// The rows that a root reaches, rising.
+pub fn reached_rows(pool: Pool, root: usize) -> Vec<usize> {
+    let reached = reached(pool, root);
+    (1..=pool.rows()).filter(|&row| reached[row]).collect()
 }
 
 /// Whether the root reaches each row by child and next words.

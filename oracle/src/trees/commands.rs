@@ -3,11 +3,11 @@ use super::case::Case;
 use super::examples::{self, read_rows};
 use super::gen;
 use super::judge::judge;
-use super::record::{forms, record};
+use super::record::forms;
 use super::selfcheck;
-use crate::record::Choice;
+use crate::questions::{record, Wanted};
 use crate::text;
-use crate::{mode, number, told, wrong};
+use crate::{kind, mode, number, told, wrong};
 use std::io::{self, BufWriter};
 
 pub const USAGE: &str = "
@@ -35,27 +35,14 @@ pub fn run(command: &str, rest: &[String]) -> Option<io::Result<bool>> {
 }
 
 fn record_kind(name: &str, options: &[String]) -> io::Result<bool> {
-    let (mut seed, mut count, mut choice) = (1, None, Choice::default());
-    for pair in options.chunks(2) {
-        match pair {
-            [option, value] if option == "--seed" => seed = number(option, value)?,
-            [option, value] if option == "--count" => count = Some(number(option, value)?),
-            [option, value] if option == "--every" => choice.every = number(option, value)?,
-            [option, value] if option == "--most" => choice.most = number(option, value)?,
-            _ => return Err(wrong(format!("unknown option {}\n{}", pair.join(" "), USAGE))),
-        }
-    }
-    if choice.every == 0 {
-        return Err(wrong("--every wants a number above 0".into()));
-    }
+    let wanted = Wanted::of(options, USAGE)?;
     let mut out = BufWriter::new(io::stdout().lock());
     if name == "examples" {
         let cases = examples::all()?.into_iter().map(|example| example.case);
-        return Ok(told(record(cases, &mut out, &choice)?));
+        return Ok(told(record(cases, &mut out, &wanted.choice)?));
     }
-    let found = gen::KINDS.iter().find(|(known, _)| *known == name);
-    let (_, kind) = *found.ok_or_else(|| wrong(format!("no kind {}", name)))?;
-    Ok(told(record(gen::cases(kind, seed, count), &mut out, &choice)?))
+    let cases = gen::cases(kind(&gen::KINDS, name)?, wanted.seed, wanted.count);
+    Ok(told(record(cases, &mut out, &wanted.choice)?))
 }
 
 fn forms_by(name: &str) -> io::Result<bool> {

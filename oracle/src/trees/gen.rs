@@ -47,7 +47,7 @@ pub const KINDS: [(&str, Kind); 8] = [
 
 /// The cases of a kind: the first `count`, or all or 10,000.
 pub fn cases(kind: Kind, seed: u64, count: Option<usize>) -> Box<dyn Iterator<Item = Case>> {
-    let mut maker = Maker { rng: Rng::new(seed), ends: Rng::new(!seed), texts: parsed(seed) };
+    let mut maker = Maker::new(seed);
     match kind {
         Kind::Table => Box::new(table().take(count.unwrap_or(usize::MAX))),
         _ => {
@@ -58,6 +58,17 @@ pub fn cases(kind: Kind, seed: u64, count: Option<usize>) -> Box<dyn Iterator<It
     }
 }
 
+/// Pools of the trees that a function makes, in any order of rows, with other rows between and behind.
+pub fn laid(seed: u64, tree: impl Fn(&mut Rng) -> Tree) -> impl Iterator<Item = (Vec<u32>, usize)> {
+    let mut maker = Maker::new(seed);
+    std::iter::repeat_with(move || {
+        let tree = tree(&mut maker.rng);
+        let (mut pool, root) = maker.lay(&tree);
+        damage::other_ends(&mut maker.ends, &mut pool);
+        (pool, root)
+    })
+}
+
 /// The trees of the table as a reader would lay them out.
 fn table() -> impl Iterator<Item = Case> {
     table::trees().map(|tree| {
@@ -66,22 +77,48 @@ fn table() -> impl Iterator<Item = Case> {
     })
 }
 
-/// The rows of random texts that are accepted, and their root.
-fn parsed(seed: u64) -> Box<dyn Iterator<Item = (Vec<u32>, usize)>> {
+/// A text that is accepted: its tokens, and what the reader gives for them.
+pub struct Parsed {
+    pub tokens: Vec<u16>,
+    pub pool: Vec<u32>,
+    pub root: usize,
+}
+
+impl Parsed {
+    /// Its root; every third time any of its rows.
+    pub fn some_root(&self, rng: &mut Rng) -> usize {
+        let rows = self.pool.len() / ROW;
+        if rng.chance(1, 3) {
+            1 + rng.below(rows)
+        } else {
+            self.root
+        }
+    }
+}
+
+/// Random texts that are accepted.
+pub fn parsed(seed: u64) -> Box<dyn Iterator<Item = Parsed>> {
     let wish = Wish { count: Some(usize::MAX), ..Wish::of(texts::Kind::Valid, seed) };
-    let answers = texts::cases(&wish).map(|case| case.answer());
-    let accepted = answers.filter(|answer| answer.root() != 0);
-    Box::new(accepted.map(|answer| (answer.rows.clone(), answer.root() as usize)))
+    let parsed = texts::cases(&wish).map(|case| {
+        let answer = case.answer();
+        let root = answer.root() as usize;
+        Parsed { tokens: case.tokens, pool: answer.rows, root }
+    });
+    Box::new(parsed.filter(|text| text.root != 0))
 }
 
 struct Maker {
     rng: Rng,
     /// Draws the ends of rows, so that all else is the same whatever they are.
     ends: Rng,
-    texts: Box<dyn Iterator<Item = (Vec<u32>, usize)>>,
+    texts: Box<dyn Iterator<Item = Parsed>>,
 }
 
 impl Maker {
+    fn new(seed: u64) -> Maker {
+        Maker { rng: Rng::new(seed), ends: Rng::new(!seed), texts: parsed(seed) }
+    }
+
     /// The cases that each run of a kind has.
     fn fixed(&mut self, kind: Kind) -> Vec<Case> {
         match kind {
@@ -147,10 +184,9 @@ impl Maker {
 
     /// The reader's rows; every third time from any of them as the root.
     fn parsed(&mut self) -> (Vec<u32>, usize) {
-        let (pool, root) = self.texts.next().expect("there is always another text");
-        let rows = pool.len() / ROW;
-        let root = if self.rng.chance(1, 3) { 1 + self.rng.below(rows) } else { root };
-        (pool, root)
+        let text = self.texts.next().expect("there is always another text");
+        let root = text.some_root(&mut self.rng);
+        (text.pool, root)
     }
 
     /// A tree of any kind with some damage.

@@ -102,11 +102,16 @@ impl Grower<'_> {
 
     /// A nest of forms: `open` readers, or one more or two, are open at once where it is read.
     pub fn nest(&mut self, open: usize) -> Tree {
+        self.nest_until(|tree| tree.open() >= open)
+    }
+
+    /// A nest of forms that can be a root, one around the other until there are enough.
+    pub fn nest_until(&mut self, is_enough: impl Fn(&Tree) -> bool) -> Tree {
         let core =
             self.rng.pick(&[kinds::IDENTIFIER, kinds::ATTRIBUTE, kinds::ARRAY, kinds::BLOCK]);
         let mut tree = self.small(core);
         let stays = self.rng.pick(&[1, 14, 15, 16]);
-        while tree.open() < open || !Takes::Root.takes(tree.kind, tree.mark) {
+        while !is_enough(&tree) || !Takes::Root.takes(tree.kind, tree.mark) {
             let owner = self.owner(&tree, stays);
             tree = self.around(tree, owner);
         }

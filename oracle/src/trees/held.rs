@@ -89,6 +89,11 @@ impl Tree {
         1 + self.parts().map(Tree::size).sum::<usize>()
     }
 
+    /// How many rows stand on its longest path from owners to children.
+    pub fn height(&self) -> usize {
+        1 + self.parts().map(Tree::height).max().unwrap_or(0)
+    }
+
     /// Whether another is the same but for places, ends and brackets.
     pub fn is_same(&self, other: &Tree) -> bool {
         let pairs = || self.slots.iter().zip(&other.slots);

@@ -6,30 +6,28 @@ use super::tally::Tally;
 use crate::batch;
 use crate::gen;
 use crate::model::{Entry, Mode, MOST_ROWS, ROW};
-use crate::record::Choice;
+use crate::questions::Question;
 use std::io::{self, Read, Write};
 
-/// Writes the chosen cases with their answers and gives the counts; or says in which case two ways
-/// of finding the answer differ.
-pub fn record(
-    cases: impl Iterator<Item = Case>,
-    to: &mut impl Write,
-    choice: &Choice,
-) -> io::Result<Result<Tally, String>> {
-    let mut tally = Tally::default();
-    for (number, case) in cases.enumerate().step_by(choice.every) {
-        let judged = match judge(&case) {
-            Ok(judged) => judged,
-            Err(what) => return Ok(Err(format!("case {} differs: {}\n  {}", number, case, what))),
-        };
-        let bytes = recorded(&case, &judged);
-        if choice.takes(bytes.len(), case.pool.len()) {
-            tally.count(&judged);
-            to.write_all(&bytes)?;
-        }
+impl Question for Case {
+    type Judged = Judged;
+    type Tally = Tally;
+
+    fn judge(&self) -> Result<Judged, String> {
+        judge(self)
     }
-    to.flush()?;
-    Ok(Ok(tally))
+
+    fn pool(&self) -> &[u32] {
+        &self.pool
+    }
+
+    fn recorded(&self, judged: &Judged) -> Vec<u8> {
+        recorded(self, judged)
+    }
+
+    fn count(tally: &mut Tally, judged: &Judged) {
+        tally.count(judged)
+    }
 }
 
 /// A head is the root; the lengths of the pool and of the two slices; the number and place of the
@@ -90,6 +88,8 @@ pub fn forms(records: &mut impl Read, to: &mut impl Write, mode: Mode) -> io::Re
 #[cfg(test)]
 mod tests {
     use super::*;
+    use crate::questions::record;
+    use crate::record::Choice;
     use crate::trees::examples::pool_of;
 
     /// The record of a case.

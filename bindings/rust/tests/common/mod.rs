@@ -1,5 +1,6 @@
 //! Helpers of the tests: token words from text, fields of token files, and answers as text.
 #![allow(dead_code)] // each test file uses some of them
+pub mod pools;
 use shigthapul::{one_expression, one_statement, whole_script};
 use shigthapul::{Keyword, Mode, Node, Refusal, Symbol, Token, Tree, ROW_WORDS};
 use std::fs;

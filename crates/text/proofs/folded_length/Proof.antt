@@ -16,7 +16,7 @@ loop-holds : tie.Need-loop-holds Inv-loop μ-loop
 loop-holds c = begun (c .before .args .payload .now)
 
 width-requires : tie.Need-width-requires Inv-loop μ-loop
-width-requires c κs = c .loop-test .taken
+width-requires c κs = tt
 
 -- what a turn of the loop is
 turn : (c : tie.After-width Inv-loop μ-loop) → Turn (c .before .before .before .before .args .payload .now) (c .before .before .loop .at) (c .before .before .loop .count) (c .width .result)

@@ -39,7 +39,7 @@ slice-write-work : tie.Need-slice-write-work Inv-loop μ-loop
 slice-write-work c = omega (arith, turn (c .before) _ refl .more)
 
 width-requires : tie.Need-width-requires Inv-loop μ-loop
-width-requires c κs = c .before .loop-test .taken
+width-requires c κs = tt
 
 add-at : tie.Need-add-at Inv-loop μ-loop
 add-at c = omega (arith, turn (c .before .before) (c .width .result) (c .width .ensures) .pass)

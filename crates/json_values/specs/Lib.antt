@@ -1,0 +1,3 @@
+-- The definitions that the contracts of `json_values` cite.
+pub mod Puts
+pub mod Valued

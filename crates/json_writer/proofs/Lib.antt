@@ -1,0 +1,13 @@
+-- What is proved of depths, and what the functions' proofs share.
+pub mod DeepPaths
+mod DeepClears
+mod DeepTurns
+mod DeepFirst
+mod Names
+mod Parts
+mod Wholes
+mod Members
+mod Checked
+mod Outcomes
+pub mod Same
+pub mod Determined
