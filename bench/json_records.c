@@ -81,6 +81,6 @@ int main(void) {
         texts += record.head[NUMBER] == 0;
         differing += !is_same(&record);
     }
-    printf("%zu trees and files, %zu texts, %d writers, %zu differing\n", records, texts, WRITERS_COUNT, differing);
+    printf("%zu trees and files, %zu texts, writers: %d, %zu differing\n", records, texts, WRITERS_COUNT, differing);
     return differing > 0 || records == 0;
 }

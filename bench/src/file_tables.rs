@@ -1,4 +1,5 @@
 //! The tables of token files: every kind and size, how time grows; and one run between two marks.
+use crate::columns;
 use crate::count::{count_begin, count_end};
 use crate::file_agree;
 use crate::file_readers::FileReader;
@@ -32,15 +33,16 @@ fn print_part(title: &str, contents: &[Content], samples: usize) {
     if readers.is_empty() {
         return;
     }
-    println!("\n{:<36}ns a byte\n{}", title, head(&readers));
+    let names: Vec<&str> = readers.iter().map(|reader| reader.name()).collect();
+    println!("\n{:<36}ns a byte\n{}", title, head(&names));
     for &content in contents {
         let measured = |(size, files)| line(content, size, files, &readers, samples);
         let lines: Vec<Line> = content.files().into_iter().map(measured).collect();
         for line in &lines {
             println!("{}", row(content, line));
         }
-        if lines.len() > 1 {
-            print_growth(&lines, &readers);
+        if let [from, .., to] = &lines[..] {
+            columns::print_growth(&names, (from.size, &from.times), (to.size, &to.times));
         }
     }
 }
@@ -65,35 +67,20 @@ fn line(
     Line { size, files: files.len(), bytes, fields, times }
 }
 
-fn head(readers: &[FileReader]) -> String {
-    let names: String = readers.iter().map(|reader| format!("{:>9}", reader.name())).collect();
-    let ratio = if readers.len() > 1 { "  ours/plain" } else { "" };
-    format!("{:<13}{:>8}{:>6}{:>9}{}{}", "kind", "bytes", "files", "fields", names, ratio)
+fn head(names: &[&str]) -> String {
+    format!("{:<13}{:>8}{:>6}{:>9}{}", "kind", "bytes", "files", "fields", columns::heads(names))
 }
 
 fn row(content: Content, line: &Line) -> String {
-    let times: String = line.times.iter().map(|time| format!("{:>9.3}", time)).collect();
-    let ratio = match line.times[..] {
-        [ours, plain] => format!("{:>12.2}", ours / plain),
-        _ => String::new(),
-    };
     let each = |sum: usize| sum as f64 / line.files as f64;
     format!(
-        "{:<13}{:>8.1}{:>6}{:>9.1}{}{}",
+        "{:<13}{:>8.1}{:>6}{:>9.1}{}",
         content.name(),
         each(line.bytes),
         line.files,
         each(line.fields),
-        times,
-        ratio
+        columns::times(&line.times)
     )
-}
-
-/// A byte's time in the largest files, beside that in the smallest.
-fn print_growth(lines: &[Line], readers: &[FileReader]) {
-    let (from, to) = (&lines[0], &lines[lines.len() - 1]);
-    let grown = |(at, reader): (usize, &FileReader)| (reader.name(), to.times[at] / from.times[at]);
-    timing::print_growth("byte", from.size, to.size, readers.iter().enumerate().map(grown));
 }
 
 /// Has a reader take a file once between the marks, one of at most so many bytes.

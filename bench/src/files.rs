@@ -134,13 +134,13 @@ fn is_coded(class: u16) -> bool {
     class == OPERATOR || class == KEYWORD
 }
 
-fn field(word: u16, payload: &[u8]) -> Vec<u8> {
+pub fn field(word: u16, payload: &[u8]) -> Vec<u8> {
     let length = u16::try_from(payload.len()).expect("a length in two bytes").to_be_bytes();
     [&[class(word) as u8], &length[..], payload].concat()
 }
 
 /// A payload for a word.
-fn payload(word: u16, chance: &mut Chance) -> Vec<u8> {
+pub fn payload(word: u16, chance: &mut Chance) -> Vec<u8> {
     match word {
         INTEGER => (chance.below(1_000_000) as i64).to_be_bytes().to_vec(),
         FLOAT => (chance.below(1_000_000) as f64 / 1000.0).to_be_bytes().to_vec(),
@@ -168,7 +168,7 @@ fn string(chance: &mut Chance) -> Vec<u8> {
 }
 
 /// So many characters of a sort.
-fn line(chance: &mut Chance, count: usize, sort: fn(&mut Chance) -> char) -> Vec<u8> {
+pub fn line(chance: &mut Chance, count: usize, sort: fn(&mut Chance) -> char) -> Vec<u8> {
     (0..count).map(|_| sort(chance)).collect::<String>().into_bytes()
 }
 

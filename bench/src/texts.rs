@@ -42,6 +42,9 @@ impl Text {
 const ACCENTED: [char; 12] = ['é', 'è', 'à', 'ç', 'ä', 'ö', 'ü', 'ß', 'ñ', 'ø', 'µ', '°'];
 const SIGNS: [char; 6] = ['–', '“', '”', '„', '€', '…'];
 
+/// What is escaped in a JSON string, some with a short form and some without.
+const ESCAPED: [char; 8] = ['"', '\\', '\n', '\n', '\t', '\r', '\u{1}', '\u{1b}'];
+
 /// A text of exactly so many bytes; where a character is too long for what is left, a blank stands. Another number
 /// gives another text.
 pub fn text(kind: Text, bytes: usize, number: u64) -> String {
@@ -67,5 +70,13 @@ pub fn of_report(chance: &mut Chance) -> char {
         1..=20 => ACCENTED[chance.below(ACCENTED.len())],
         21..=50 => ' ',
         _ => letter(chance),
+    }
+}
+
+/// The same, but that one in twenty must be escaped in a JSON string.
+pub fn of_quoted_report(chance: &mut Chance) -> char {
+    match chance.below(20) {
+        0 => ESCAPED[chance.below(ESCAPED.len())],
+        _ => of_report(chance),
     }
 }

@@ -15,7 +15,7 @@ pub enum Shape {
     /// A script of statements of every form, as they are read.
     Mixed,
     /// A script of strings, one to a statement.
-    Strings,
+    Texts,
 }
 
 impl Shape {
@@ -23,7 +23,7 @@ impl Shape {
     pub const SCRIPTS: [Shape; 3] = [Shape::Deep, Shape::Wide, Shape::Mixed];
 
     /// Those that are written as JSON.
-    pub const JSON: [Shape; 4] = [Shape::Nests, Shape::Wide, Shape::Mixed, Shape::Strings];
+    pub const JSON: [Shape; 4] = [Shape::Nests, Shape::Wide, Shape::Mixed, Shape::Texts];
 
     /// Its name, which no other of the same list has.
     pub fn name(self) -> &'static str {
@@ -31,7 +31,7 @@ impl Shape {
             Shape::Deep | Shape::Nests => "deep",
             Shape::Wide => "wide",
             Shape::Mixed => "mixed",
-            Shape::Strings => "texts",
+            Shape::Texts => "texts",
         }
     }
 
@@ -65,7 +65,7 @@ pub fn tree(shape: Shape, rows: usize, number: u64) -> Vec<u32> {
         Shape::Nests => maker.script(rows, Maker::nest),
         Shape::Wide => maker.script(rows, Maker::simple),
         Shape::Mixed => maker.mixed(rows, number),
-        Shape::Strings => maker.script(rows, Maker::string),
+        Shape::Texts => maker.script(rows, Maker::string),
     }
     assert_eq!(maker.words.len(), ROW * rows);
     maker.words

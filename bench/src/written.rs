@@ -6,10 +6,11 @@ use crate::trees::{tree, Shape};
 use crate::writers::{ours, Answer, Writer};
 use std::time::Duration;
 
-const SIZES: [usize; 4] = [100, 1000, 10000, MOST_ROWS];
+/// How many rows the trees have.
+pub const SIZES: [usize; 4] = [100, 1000, 10000, MOST_ROWS];
 
 /// As many different trees of a size are taken one after the other as have together about so many rows.
-const ROWS: usize = MOST_ROWS;
+pub const ROWS: usize = MOST_ROWS;
 
 /// What the functions for threads with little stack look at.
 const SMALL_ROWS: usize = crate::sizes::SMALL_ROWS;

@@ -37,10 +37,10 @@ int main(void) {
     struct head head;
     size_t bytes, record = 0;
     while ((bytes = fread(&head, 1, sizeof head, stdin)) > 0) {
-        bool whole = bytes == sizeof head && take_rest(&head);
-        check(whole, "cut short or too long", record);
-        if (!whole)
+        if (bytes < sizeof head || !take_rest(&head)) {
+            check(false, "cut short, or too long", record);
             break;
+        }
         struct told told = {.pool = pool,
                             .pool_length = head.pool,
                             .root = head.root,

@@ -46,9 +46,9 @@ table! {
         TooShort = 32, "no room for what is written";
         /// A Str, an Identifier or an Unknown that is not well-formed UTF-8, or a Char that is no scalar value.
         NotUnicode = 33, "the token file: a text or a Char that is not Unicode";
-        /// Of [`json`](crate::json) only, which says what a path is.
+        /// Of [`json`](crate::json()) only, which says what a path is.
         DeepTree = 34, "too deep for a JSON text: more than 128 rows on a path";
-        /// [`check`](crate::check) says what a tree is, and [`json`](crate::json) which payload needs which field.
+        /// [`check`](crate::check) says what a tree is, and [`json`](crate::json()) which payload needs which field.
         NoTree = 38, "not a tree: the root, or a row that it reaches; or no field for its payload";
     }
 }

@@ -196,7 +196,7 @@ impl<'a> Tree<'a> {
         tokens_of(self.words, self.root)
     }
 
-    /// The tree as a JSON text, as [`json`](crate::json) writes it, with the payloads of the token file
+    /// The tree as a JSON text, as [`json`](crate::json()) writes it, with the payloads of the token file
     /// that it was read from. A tree with no root is refused.
     ///
     /// ```

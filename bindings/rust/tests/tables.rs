@@ -2,7 +2,7 @@
 mod common;
 use common::{repository, text_of};
 use shigthapul::{Infix, Keyword, Kind, Prefix, Reason, Suffix, Symbol, Token};
-use shigthapul::{MOST_ROWS, ROW_TOKENS, ROW_WORDS, SMALL_ROWS};
+use shigthapul::{MOST_ROWS, PAYLOAD_BYTES, ROW_BYTES, ROW_TOKENS, ROW_WORDS, SMALL_ROWS};
 use std::fs;
 
 /// A member of a table: its name in small letters without `_`, its number, its text.
@@ -80,7 +80,9 @@ fn the_rattle_source_has_the_same_numbers() {
     let constants: Vec<(String, u32)> = source.lines().filter_map(constant).collect();
     let known = members!(Reason).into_iter().chain(members!(Kind));
     for (name, number, _) in known {
-        assert!(constants.contains(&(name.clone(), number)), "{} {}", name, number);
+        // Two refusals have one name there, each in a crate of its own.
+        let name = if name == "deeptree" { "toodeep" } else { &name };
+        assert!(constants.contains(&(name.to_string(), number)), "{} {}", name, number);
     }
 }
 
@@ -122,6 +124,8 @@ fn the_c_header_and_the_rattle_source_have_the_same_sizes() {
     assert_eq!(size("bindings/c/shigthapul.h", "SHIGTHAPUL_MOST_ROWS"), MOST_ROWS);
     assert_eq!(size("bindings/c/shigthapul.h", "SHIGTHAPUL_SMALL_ROWS"), SMALL_ROWS);
     assert_eq!(size("bindings/c/shigthapul.h", "SHIGTHAPUL_ROW_TOKENS"), ROW_TOKENS);
+    assert_eq!(size("bindings/c/shigthapul.h", "SHIGTHAPUL_ROW_BYTES"), ROW_BYTES);
+    assert_eq!(size("bindings/c/shigthapul.h", "SHIGTHAPUL_PAYLOAD_BYTES"), PAYLOAD_BYTES);
     assert_eq!(size("crates/rows/src/lib.rt", "const WIDTH: usize"), ROW_WORDS);
     assert_eq!(size("crates/rows/src/lib.rt", "const MOST: usize"), MOST_ROWS);
 }
@@ -142,6 +146,6 @@ fn numbers_and_members() {
         assert_eq!(Kind::from_number(kind.number()), Some(*kind));
     }
     assert_eq!([0, 20, 31, 47].map(Kind::from_number), [None; 4]);
-    assert_eq!([0, 7, 9, 31, 34, 37, 39].map(Reason::from_number), [None; 7]);
+    assert_eq!([0, 7, 9, 31, 35, 37, 39].map(Reason::from_number), [None; 7]);
     assert_eq!(format!("{:>7}", Kind::Name), "   name");
 }

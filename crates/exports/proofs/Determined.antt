@@ -7,7 +7,9 @@ use Rattle.grammar.specs.Once.{Determines}
 use Rattle.trees.proofs.Unique.{one-answer}
 use Rattle.writer.specs.declared.Wrote.{Wrote}
 use Rattle.writer.proofs.Outcomes.{one-outcome}
-use Rattle.exports.specs.Trees.{Checks, Puts}
+use Rattle.json_writer.specs.declared.Told.{Told}
+use Rattle.json_writer.proofs.Outcomes.{one-telling}
+use Rattle.exports.specs.Trees.{Checks, Puts, Tells}
 use Rattle.exports.proofs.shigthapul_one_expression.Reads as one-expression
 use Rattle.exports.proofs.shigthapul_one_statement.Reads as one-statement
 use Rattle.exports.proofs.shigthapul_whole_script.Reads as whole-script
@@ -18,6 +20,8 @@ use Rattle.exports.proofs.shigthapul_check.Reads as check
 use Rattle.exports.proofs.shigthapul_check_small.Reads as check-small
 use Rattle.exports.proofs.shigthapul_write.Reads as write
 use Rattle.exports.proofs.shigthapul_write_small.Reads as write-small
+use Rattle.exports.proofs.shigthapul_json.Reads as json
+use Rattle.exports.proofs.shigthapul_json_small.Reads as json-small
 
 pub one-expression-determined : Determines {A = _ × _} one-expression.Post (λ κs r left. (now (left .1 .1 .1 .1 .0), now (left .1 .0)))
 one-expression-determined κs args r r′ left left′ p q = cc
@@ -68,3 +72,20 @@ write-determined κs args r r′ left left′ p q = one-put p q
 
 pub write-small-determined : Determines {A = _ × _ × _} write-small.Post (λ κs r left. (now (left .1 .1 .0), now (left .1 .1 .1 .0), now (left .1 .1 .1 .1 .0)))
 write-small-determined κs args r r′ left left′ p q = one-put p q
+
+-- and so has writing as JSON
+one-tell : {pool : List ℕ} {root : ℕ} {file text s text′ s′ text″ s″ : List ℕ} → Tells pool root file text s text′ s′ → Tells pool root file text s text″ s″
+    → _≡_ {A = List ℕ × List ℕ} (text′, s′) (text″, s″)
+one-tell {text′ = text′} {text″ = text″} p q =
+    let same = one-telling (p .tells) (q .tells) in
+    let answer : p .answer ≡ q .answer = ap (λ (x : Told × List ℕ). x .0) same in
+    let bytes : text′ ≡ text″ = ap (λ (x : Told × List ℕ). x .1) same in
+    let one = p .four in
+    let other = q .four in
+    cc
+
+pub json-determined : Determines {A = _ × _} json.Post (λ κs r left. (now (left .1 .1 .1 .0), now (left .1 .1 .1 .1 .0)))
+json-determined κs args r r′ left left′ p q = one-tell p q
+
+pub json-small-determined : Determines {A = _ × _} json-small.Post (λ κs r left. (now (left .1 .1 .1 .0), now (left .1 .1 .1 .1 .0)))
+json-small-determined κs args r r′ left left′ p q = one-tell p q

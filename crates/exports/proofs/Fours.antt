@@ -9,8 +9,11 @@ use Rattle.trees.specs.Verdict as check
 use Rattle.writer.specs.declared.Wrote.{Wrote}
 use Rattle.writer.specs.declared.Wrote.the-variants as wrote
 use Rattle.writer.specs.Wrote as writer
+use Rattle.json_writer.specs.declared.Told.{Told}
+use Rattle.json_writer.specs.declared.Told.the-variants as told
+use Rattle.json_writer.specs.Tells as json
 use Rattle.four.specs.Answers.{over}
-use Rattle.exports.specs.Trees.{Checks, Puts}
+use Rattle.exports.specs.Trees.{Checks, Puts, Tells}
 
 four : (a b c d : ℕ) (s : List ℕ) → over (a ∷ b ∷ c ∷ d ∷ []) (take 4 s) ++ drop 4 s ≡ over (a ∷ b ∷ c ∷ d ∷ []) s
 unfolding over
@@ -28,9 +31,16 @@ four-wrote : (r : Wrote) (s : List ℕ) → over (writer.numbers r) (take 4 s) +
 four-wrote (wrote.Tokens n) s = four 0 n 0 0 s
 four-wrote (wrote.Refused n p) s = four n p 0 0 s
 
+four-told : (r : Told) (s : List ℕ) → over (json.numbers r) (take 4 s) ++ drop 4 s ≡ over (json.numbers r) s
+four-told (told.Bytes n) s = four 0 n 0 0 s
+four-told (told.Refused n p) s = four n p 0 0 s
+
 module _ {pool : List ℕ} {root : ℕ} where
   pub checks-whole : {s l : List ℕ} → Checks pool root (take 4 s) l → Checks pool root s (l ++ drop 4 s)
   checks-whole {s} {l} c = record { answer = _; verdict = c .verdict; four = ap (λ (k : List ℕ). k ++ drop 4 s) (c .four) ∙ four-checked (c .answer) s }
 
   pub puts-whole : {ws ps s ws′ ps′ l : List ℕ} → Puts pool root ws ps (take 4 s) ws′ ps′ l → Puts pool root ws ps s ws′ ps′ (l ++ drop 4 s)
   puts-whole {s = s} p = record { answer = _; writes = p .writes; four = ap (λ (k : List ℕ). k ++ drop 4 s) (p .four) ∙ four-wrote (p .answer) s }
+
+  pub tells-whole : {file text s text′ l : List ℕ} → Tells pool root file text (take 4 s) text′ l → Tells pool root file text s text′ (l ++ drop 4 s)
+  tells-whole {s = s} t = record { answer = _; tells = t .tells; four = ap (λ (k : List ℕ). k ++ drop 4 s) (t .four) ∙ four-told (t .answer) s }

@@ -7,6 +7,8 @@ use Rattle.trees.specs.declared.Checked.{Checked}
 use Rattle.trees.specs.Verdict as check
 use Rattle.writer.specs.declared.Wrote.{Wrote}
 use Rattle.writer.specs.Wrote as writer
+use Rattle.json_writer.specs.declared.Told.{Told}
+use Rattle.json_writer.specs.Tells as json
 use Rattle.four.specs.Answers.{over}
 
 module _ (pool : List ℕ) (root : ℕ) where
@@ -21,3 +23,9 @@ module _ (pool : List ℕ) (root : ℕ) where
     pub answer : Wrote
     pub writes : writer.Writes pool root (length words) (length places) answer words′ places′
     pub four : slice′ ≡ over (writer.numbers answer) slice
+
+  -- The answer of writing as JSON is in front of the slice that is lent for it, and the text is as the writer leaves it.
+  pub record Tells (file text slice text′ slice′ : List ℕ) : Type 0 where
+    pub answer : Told
+    pub tells : json.Tells pool root file (length text) answer text′
+    pub four : slice′ ≡ over (json.numbers answer) slice

@@ -8,7 +8,7 @@ ghost use Rattle.files.specs.Entry.{file-answer, file-buffer};
 ghost use Rattle.text.specs.Entries.{fold-answer, fold-buffer};
 ghost use Rattle.four.specs.Answers.{over, file-words, fold-words, text-words};
 ghost use Rattle.trees.specs.Leaves.{front};
-ghost use Rattle.exports.specs.Trees.{Checks, Puts};
+ghost use Rattle.exports.specs.Trees.{Checks, Puts, Tells};
 
 // Reads one expression from a start place, in strict mode or in the old one.
 #[no_mangle]
@@ -150,4 +150,42 @@ pub extern "C" fn shigthapul_write_small(
 {
     let wrote = writer::write_small(pool, root, words, places);
     four_trees::put_wrote(answer, wrote);
+}
+
+// Writes the tree at a root as JSON, its payloads from the fields of a file. It calls itself as the check does.
+#[no_mangle]
+pub extern "C" fn shigthapul_json(
+    pool: &[u32],
+    root: usize,
+    file: &[u8],
+    text: &mut [u8],
+    answer: &mut [u64],
+)
+    ensures { λ _. ⌜ Tells (now (pool .entry)) root (now (file .entry)) (now (text .entry)) (now (answer .entry)) (now (text .exit)) (now (answer .exit)) ⌝ }
+{
+    if 4 < answer.len() {
+        shigthapul_json(pool, root, file, text, &mut answer[..4]);
+        return;
+    }
+    if pool.len() < rows::end(trees::SMALL as u32) {
+        shigthapul_json_small(pool, root, file, text, answer);
+        return;
+    }
+    let told = json_writer::write_large(pool, root, file, text);
+    four_json::put_told(answer, told);
+}
+
+// The same of the front of a pool, with little stack whatever the pool.
+#[no_mangle]
+pub extern "C" fn shigthapul_json_small(
+    pool: &[u32],
+    root: usize,
+    file: &[u8],
+    text: &mut [u8],
+    answer: &mut [u64],
+)
+    ensures { λ _. ⌜ Tells (front (now (pool .entry))) root (now (file .entry)) (now (text .entry)) (now (answer .entry)) (now (text .exit)) (now (answer .exit)) ⌝ }
+{
+    let told = json_writer::write_small(pool, root, file, text);
+    four_json::put_told(answer, told);
 }

@@ -1,12 +1,9 @@
 -- Numbers in decimal: their digits end where no digit follows, and say the number.
 use mathlib.Core.Path.{_≡_, refl, sym, ap, _∙_}
-use mathlib.Core.Bool.{Bool, true, false, cond}
 use mathlib.Core.List.{List, [], _∷_, _++_}
-use Prim.Native.Nat.{ℕ, zero, suc, _+_, _*_, _-_, _/_, _%_, _^_, _≤_, _<_}
+use Prim.Native.Nat.{ℕ, _+_, _-_, _/_, _%_, _^_, _≤_, _<_}
 use native.Mathlib.Decide.{decLt}
 use native.Mathlib.Omega.{arith}
-use lib.Dec.{ltb}
-use lib.ListN.{length, length-append}
 use borrow.Author.Tests.{lt-ltb, le-ltb}
 use Rattle.lines.specs.Decimal.{decimal, said}
 use Rattle.lines.proofs.Decimal.{decimal-low, decimal-high, by-digits, says}
@@ -70,8 +67,8 @@ decimal-law m n x y s t e =
     (sym (says m) ∙ ap (said 0) a ∙ says n, b)
 
 -- signed numbers of 64 bits
-minus-law : (m n : ℕ) (x y : List ℕ) → decimal m ++ x ≡ 45 ∷ y → ⊥
-minus-law m n x y e =
+minus-law : (m : ℕ) (x y : List ℕ) → decimal m ++ x ≡ 45 ∷ y → ⊥
+minus-law m x y e =
     let f = first-of m in
     let g : (f .first ∷ f .rest) ++ x ≡ 45 ∷ y = rw (f .whole) at e in
     let z : f .first ≡ 45 = cc in
@@ -91,8 +88,8 @@ signed-law m n x y p q s t e = go (decLt m (2 ^ 63)) (decLt n (2 ^ 63))
   where
     go : Dec (m < 2 ^ 63) → Dec (n < 2 ^ 63) → (m ≡ n) × (x ≡ y)
     go (yes h) (yes k) = decimal-law m n x y s t (rw (plus m h, plus n k) at e)
-    go (yes h) (no k) = absurd (minus-law m n x (decimal (2 ^ 64 - n) ++ y) (rw (plus m h, minus n (omega arith)) at e))
-    go (no h) (yes k) = absurd (minus-law n m y (decimal (2 ^ 64 - m) ++ x) (sym (rw (minus m (omega arith), plus n k) at e)))
+    go (yes h) (no k) = absurd (minus-law m x (decimal (2 ^ 64 - n) ++ y) (rw (plus m h, minus n (omega arith)) at e))
+    go (no h) (yes k) = absurd (minus-law n y (decimal (2 ^ 64 - m) ++ x) (sym (rw (minus m (omega arith), plus n k) at e)))
     go (no h) (no k) =
         let f : 45 ∷ (decimal (2 ^ 64 - m) ++ x) ≡ 45 ∷ (decimal (2 ^ 64 - n) ++ y) = rw (minus m (omega arith), minus n (omega arith)) at e in
         let (a, b) = decimal-law (2 ^ 64 - m) (2 ^ 64 - n) x y s t (cc) in

@@ -1,35 +1,35 @@
 -- Every text is a JSON text by the grammar of RFC 8259.
 use mathlib.Core.Path.{_≡_, refl, sym, ap, subst, _∙_}
-use mathlib.Core.Bool.{Bool, true, false, cond, _&&_}
-use mathlib.Core.Logic.{_⊎_, inl, inr}
+use mathlib.Core.Bool.{Bool, true, _&&_, and-eq-true-iff}
+use mathlib.Core.Logic.{inl, inr}
 use mathlib.Core.List.{List, [], _∷_, _++_, append-assoc, append-nil}
-use Prim.Native.Nat.{ℕ, _+_, _/_, _%_, _≤_, _<_}
+use Prim.Native.Nat.{ℕ, _+_, _/_, _%_, _<_}
 use native.Mathlib.Decide.{decLt, ℕ-discrete}
 use native.Mathlib.Omega.{arith}
-use lib.Dec.{eqb, ltb}
+use lib.Dec.{ltb}
 use borrow.Author.Tests.{lt-ltb, le-ltb, ltb-true}
 use Rattle.grammar.specs.Tree.{Tree, infixed, node, Trees, nil, _▸_}
 use Rattle.slots.specs.Slots.{Many, no as nowhere, one as single, at-most-one, any, some, slot}
 use Rattle.text.specs.Fold.{folded}
 use Rattle.unicode.specs.Unicode.{encode}
-use Rattle.unicode.specs.Claims as claims
+use Rattle.unicode.proofs.Texts.{well-formed-texts}
 use Rattle.text.proofs.Keeps.{fold-keeps}
 use Rattle.lines.specs.Decimal.{decimal}
 use Rattle.lines.specs.Lines.{letters}
 use Rattle.fields.specs.Field.{number}
 use Rattle.payloads.specs.Fields.{Field, payload-at}
-use Rattle.payloads.specs.Needs.{Integer, Str, Float, Char, Identifier, needs}
+use Rattle.payloads.specs.Needs.{needs}
 use Rattle.payloads.specs.Claims.{Bytes, Proper}
-use Rattle.json.specs.Values.{signed, hex, hexes, escape, escaped, quoted}
+use Rattle.json.specs.Values.{hex, hexes, escape, escaped, quoted}
 use Rattle.json.specs.Json.{name, expression-names, statement-names, shown, value, paid, head, listed, array, object-or-null, child, member, text, texts}
-use Rattle.json.specs.Claims.{Ready, Grammatical}
+use Rattle.json.specs.Claims.{Grammatical}
 use Rattle.json.specs.Rfc as rfc
-use Rattle.json.proofs.Names.{both, all-below, one-below, Known}
+use Rattle.json.proofs.Names.{all-below, one-below, Known}
 use Rattle.json.proofs.Payloads.{Class, nothing, integer, str, float, char, identifier, class-of, proper-char, proper-str, proper-identifier}
 use Rattle.json.proofs.Rows.{Row, paid-none, paid-some, commas, behind-commas, listed-behind}
-use Rattle.json.proofs.Trees.{Good, Goods}
+use Rattle.json.proofs.Trees.{infix-row, Good, Goods}
 use Rattle.json.proofs.Injective.{ready}
-use Rattle.json.proofs.Texts.{Ascii, ascii-text, string-of, char-text, well-formed-text, number-of, signed-of}
+use Rattle.json.proofs.Texts.{Ascii, ascii-text, string-of, char-text, number-of, signed-of}
 
 -- ASCII, by a test
 ascii : List ℕ → Bool
@@ -39,7 +39,7 @@ ascii (b ∷ bs) = ltb b 0x80 && ascii bs
 ascii-true : (bs : List ℕ) → ascii bs ≡ true → Ascii bs
 unfolding ascii
 ascii-true [] e = tt
-ascii-true (b ∷ bs) e = let (a, r) = both (ltb b 0x80) (ascii bs) e in (ltb-true b 0x80 a, ascii-true bs r)
+ascii-true (b ∷ bs) e = let (a, r) = and-eq-true-iff (ltb b 0x80) (ascii bs) .0 e in (ltb-true b 0x80 a, ascii-true bs r)
 
 -- The names of the kinds are strings: one computed test.
 all-ascii : all-below 47 (λ k. ascii (name k)) ≡ true
@@ -125,10 +125,10 @@ payload-value : {c : ℕ} (bs : List ℕ) → Class c → (c ≡ 0 → ⊥) → 
 unfolding value shown
 payload-value bs nothing h p = absurd (h refl)
 payload-value bs integer h p = rfc.a-number (signed-of (number 0 bs))
-payload-value bs str h p = rfc.a-string (string-of (folded bs) (well-formed-text (folded bs) (fold-keeps bs (proper-str bs p))))
+payload-value bs str h p = rfc.a-string (string-of (folded bs) (well-formed-texts (folded bs) .0 (fold-keeps bs (proper-str bs p))))
 payload-value bs float h p = rfc.a-string (string-of (hexes bs) (ascii-text (hexes bs) (hexes-ascii bs (p .are-bytes))))
 payload-value bs char h p = rfc.a-string (string-of (encode (number 0 bs)) (char-text (number 0 bs) (proper-char bs p .1)))
-payload-value bs identifier h p = rfc.a-string (string-of bs (well-formed-text bs (proper-identifier bs p)))
+payload-value bs identifier h p = rfc.a-string (string-of bs (well-formed-texts bs .0 (proper-identifier bs p)))
 
 paid-members : (fs : List Field) (k p : ℕ) → Row fs k p → rfc.Members (paid fs k p)
 paid-members fs k p r = go (ℕ-discrete (needs k) 0)
@@ -192,10 +192,6 @@ node-value fs k m p z a b c d r va vb vc vd =
     (members-append (slot-members 1 (slot k 1 .many) (texts fs b) key-1 vb)
     (members-append (slot-members 2 (slot k 2 .many) (texts fs c) key-2 vc) (slot-members 3 (slot k 3 .many) (texts fs d) key-3 vd))) in
     subst rfc.Value (simp append-assoc) (row-value fs k m p _ r h)
-
-infix-row : (fs : List Field) (p : ℕ) → Row fs 12 p
-unfolding needs
-infix-row fs p = record { known = inl (omega arith, omega arith); proper = λ h. absurd (h refl) }
 
 infix-value : (fs : List Field) (m p z : ℕ) (l r : Tree) → rfc.Value (text fs l) → rfc.Value (text fs r) → rfc.Value (text fs (infixed m p l r z))
 unfolding text

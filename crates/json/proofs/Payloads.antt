@@ -1,24 +1,22 @@
 -- The values of payloads: a value ends by its own form, and says what is shown.
-use mathlib.Core.Path.{_≡_, refl, sym, ap, subst, _∙_}
+use mathlib.Core.Path.{_≡_, refl, sym, subst, _∙_}
 use mathlib.Core.Bool.{Bool, true, false, cond}
 use mathlib.Core.List.{List, [], _∷_, _++_, append-nil}
-use Prim.Native.Nat.{ℕ, zero, suc, _+_, _*_, _^_, _≤_, _<_}
-use native.Mathlib.Decide.{decLt, ℕ-discrete}
+use Prim.Native.Nat.{ℕ, zero, suc, _+_, _*_, _^_, _<_}
+use native.Mathlib.Decide.{ℕ-discrete}
 use native.Mathlib.Omega.{arith}
 use lib.Dec.{eqb}
 use lib.ListN.{length}
-use borrow.Author.Tests.{eq-eqb, ne-eqb, eqb-true}
+use borrow.Author.Tests.{ne-eqb, eqb-true}
 use Rattle.unicode.specs.Unicode.{scalar, encode, encoded, well-formed}
-use Rattle.unicode.specs.Claims.{Scalars}
 use Rattle.unicode.proofs.Texts.{one-text}
-use Rattle.lines.specs.Lines.{letters}
 use Rattle.grammar.specs.Words.{class}
 use Rattle.fields.specs.Field.{allowed, number, unicode}
-use Rattle.payloads.specs.Fields.{Field, NoClass, payload-at}
+use Rattle.payloads.specs.Fields.{NoClass}
 use Rattle.payloads.specs.Needs.{Integer, Str, Float, Char, Identifier, needs}
 use Rattle.payloads.specs.Claims.{Bytes, Proper}
-use Rattle.json.specs.Values.{signed, hexes, quoted}
-use Rattle.json.specs.Json.{shown, value, paid}
+use Rattle.json.specs.Values.{hexes}
+use Rattle.json.specs.Json.{shown, value}
 use Rattle.json.specs.Claims.{Values}
 use Rattle.json.proofs.Decimal.{Stops, signed-law}
 use Rattle.json.proofs.Strings.{quoted-law, hexes-law}

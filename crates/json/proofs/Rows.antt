@@ -1,12 +1,10 @@
 -- The members of a row: each ends by its own form.
 use mathlib.Core.Path.{_≡_, refl, sym, ap, _∙_}
-use mathlib.Core.Bool.{Bool, true, false, cond}
-use mathlib.Core.List.{List, [], _∷_, _++_, append-assoc, append-nil}
-use Prim.Native.Nat.{ℕ, zero, suc, _+_, _≤_, _<_}
+use mathlib.Core.List.{List, [], _∷_, _++_, append-assoc, append-nil, append-cancel-left as cancel}
+use Prim.Native.Nat.{ℕ}
 use native.Mathlib.Decide.{ℕ-discrete}
 use native.Mathlib.Omega.{arith}
-use lib.Dec.{eqb}
-use borrow.Author.Tests.{eq-eqb, ne-eqb}
+use borrow.Author.Tests.{ne-eqb}
 use Rattle.slots.specs.Slots.{Many, no as nowhere, one as single, at-most-one, any, some}
 use Rattle.lines.specs.Decimal.{decimal}
 use Rattle.lines.specs.Lines.{letters}
@@ -14,15 +12,11 @@ use Rattle.payloads.specs.Fields.{Field, payload-at}
 use Rattle.payloads.specs.Needs.{needs}
 use Rattle.payloads.specs.Claims.{Proper}
 use Rattle.json.specs.Values.{quoted}
-use Rattle.json.specs.Json.{name, shown, value, paid, head, listed, array, object-or-null, child, member}
+use Rattle.json.specs.Json.{name, shown, value, paid, head, listed, child, member}
 use Rattle.json.proofs.Decimal.{Stops, decimal-law}
 use Rattle.json.proofs.Strings.{quoted-law}
 use Rattle.json.proofs.Names.{Known, names-law}
 use Rattle.json.proofs.Payloads.{value-law}
-
-pub cancel : (a x y : List ℕ) → a ++ x ≡ a ++ y → x ≡ y
-cancel [] x y e = e
-cancel (b ∷ a) x y e = cancel a x y (cc)
 
 -- A row that is written: a known kind, and where it has a payload one that is proper.
 pub record Row (fs : List Field) (k p : ℕ) : Type 0 where
@@ -97,7 +91,7 @@ head-law fs gs k j m n p q x y r s u v e =
 -- The member of a slot.
 pub child-law : (i : ℕ) (v w x y : List ℕ) → child i v ++ x ≡ child i w ++ y → v ++ x ≡ w ++ y
 unfolding child
-child-law i v w x y e = cancel (letters ",\"c" ++ ((48 + i) ∷ letters "\":")) (v ++ x) (w ++ y) e
+child-law i v w x y e = cc
 
 pub stops-child : (i : ℕ) (v x : List ℕ) → Stops (child i v ++ x)
 unfolding child
@@ -106,10 +100,10 @@ stops-child i v x a b = omega arith
 pub stops-member : (i : ℕ) (m : Many) (ts : List (List ℕ)) (x : List ℕ) → Stops x → Stops (member i m ts ++ x)
 unfolding member
 stops-member i nowhere ts x s = s
-stops-member i single ts x s = stops-child i (object-or-null ts) x
-stops-member i at-most-one ts x s = stops-child i (object-or-null ts) x
-stops-member i any ts x s = stops-child i (array ts) x
-stops-member i some ts x s = stops-child i (array ts) x
+stops-member i single ts x s = stops-child i _ x
+stops-member i at-most-one ts x s = stops-child i _ x
+stops-member i any ts x s = stops-child i _ x
+stops-member i some ts x s = stops-child i _ x
 
 -- A list behind its first text.
 unfoldable pub behind : List (List ℕ) → List ℕ → List ℕ

@@ -1,13 +1,12 @@
 -- JSON strings: a text is read back from its quotes.
 use mathlib.Core.Path.{_≡_, refl, sym, ap, _∙_}
-use mathlib.Core.Bool.{Bool, true, false, cond}
-use mathlib.Core.List.{List, [], _∷_, _++_, append-assoc}
-use Prim.Native.Nat.{ℕ, zero, suc, _+_, _*_, _-_, _/_, _%_, _≤_, _<_}
+use mathlib.Core.Bool.{false, cond}
+use mathlib.Core.List.{List, [], _∷_, _++_, append-assoc, tail-eq-of-cons-eq}
+use Prim.Native.Nat.{ℕ, suc, _+_, _*_, _-_, _/_, _%_, _≤_, _<_}
 use native.Mathlib.Decide.{decLt, ℕ-discrete}
 use native.Mathlib.Omega.{arith}
 use lib.Dec.{eqb, ltb}
-use borrow.Author.Tests.{lt-ltb, le-ltb, eq-eqb, ne-eqb}
-use Rattle.lines.specs.Lines.{letters}
+use borrow.Author.Tests.{lt-ltb, le-ltb, ne-eqb}
 use Rattle.json.specs.Values.{hex, hexes, escape, escaped, quoted}
 
 -- the number of a hexadecimal digit
@@ -128,11 +127,8 @@ escaped-law (c ∷ a) (d ∷ b) x y e =
 pub quoted-law : (a b x y : List ℕ) → quoted a ++ x ≡ quoted b ++ y → (a ≡ b) × (x ≡ y)
 unfolding quoted
 quoted-law a b x y e =
-    let f : escaped a ++ (0x22 ∷ x) ≡ escaped b ++ (0x22 ∷ y) = simp append-assoc at (tail e) in
+    let f : escaped a ++ (0x22 ∷ x) ≡ escaped b ++ (0x22 ∷ y) = simp append-assoc at (tail-eq-of-cons-eq e) in
     escaped-law a b x y f
-  where
-    tail : {a b : ℕ} {x y : List ℕ} → a ∷ x ≡ b ∷ y → x ≡ y
-    tail e = cc
 
 -- The digits of bytes say the bytes.
 pub hexes-law : (a b : List ℕ) → hexes a ≡ hexes b → a ≡ b

@@ -1,25 +1,20 @@
 -- Strings and numbers by the grammar of RFC 8259.
-use mathlib.Core.Path.{_≡_, refl, sym, ap, subst, _∙_}
-use mathlib.Core.Bool.{Bool, true, false, cond, _&&_}
-use mathlib.Core.Logic.{_⊎_, inl, inr}
+use mathlib.Core.Path.{_≡_, refl, sym, subst}
+use mathlib.Core.Bool.{Bool, true, false, cond, and-eq-true-iff}
 use mathlib.Core.List.{List, [], _∷_, _++_, append-assoc, append-nil}
-use Prim.Native.Nat.{ℕ, zero, suc, _+_, _*_, _-_, _/_, _%_, _^_, _≤_, _<_}
+use Prim.Native.Nat.{ℕ, _+_, _-_, _/_, _%_, _^_, _≤_, _<_}
 use native.Mathlib.Decide.{decLt, ℕ-discrete}
 use native.Mathlib.Omega.{arith}
-use lib.Dec.{eqb, ltb, leb}
-use lib.ListN.{length}
-use borrow.Author.Tests.{lt-ltb, le-ltb, leb-true, eq-eqb, ne-eqb, eqb-true}
-use Rattle.unicode.specs.Unicode.{scalar, encode, encoded, well-formed}
+use lib.Dec.{ltb, leb}
+use borrow.Author.Tests.{lt-ltb, le-ltb, leb-true, ne-eqb}
+use Rattle.unicode.specs.Unicode.{scalar, encode, encoded}
 use Rattle.unicode.specs.Claims.{Scalars}
 use Rattle.unicode.specs.Claims as claims
 use Rattle.unicode.proofs.Values.{encode-1, low-scalar}
-use Rattle.unicode.proofs.Texts.{well-formed-texts}
 use Rattle.lines.specs.Decimal.{decimal}
 use Rattle.lines.proofs.Decimal.{decimal-low}
-use Rattle.lines.specs.Lines.{letters}
-use Rattle.json.specs.Values.{signed, hex, hexes, escape, escaped, quoted}
+use Rattle.json.specs.Values.{signed, hex, escape, escaped, quoted}
 use Rattle.json.specs.Rfc as rfc
-use Rattle.json.proofs.Names.{both}
 use Rattle.json.proofs.Decimal.{Digits, First, first-of, plus, minus}
 
 -- a hexadecimal digit
@@ -111,7 +106,7 @@ char-of c s = go (decLt c 0x80)
     go : Dec (c < 0x80) → rfc.Char (escaped (encode c))
     go (yes h) = rw (encode-1 c h, escaped-one c) (char-escaped c h)
     go (no h) = rw (escaped-high (encode c) (encode-high c (omega arith)))
-        (rfc.plain {c = c} (rfc.third {c = c} (omega arith) (leb-true c 0x10FFFF (both (leb c 0x10FFFF) _ s .0))) s)
+        (rfc.plain {c = c} (rfc.third {c = c} (omega arith) (leb-true c 0x10FFFF (and-eq-true-iff (leb c 0x10FFFF) _ .0 s .0))) s)
 
 chars-of : (cs : List ℕ) → Scalars cs → rfc.Chars (escaped (encoded cs))
 unfolding encoded escaped
@@ -123,10 +118,7 @@ pub string-of : (bytes : List ℕ) → claims.Text bytes → rfc.String (quoted 
 unfolding quoted
 string-of bytes t = rfc.string (subst (λ bs. rfc.Chars (escaped bs)) (t .bytes-of) (chars-of (t .values) (t .scalars)))
 
--- Texts: well-formed bytes, those of one character, ASCII
-pub well-formed-text : (bytes : List ℕ) → well-formed bytes ≡ true → claims.Text bytes
-well-formed-text bytes e = well-formed-texts bytes .0 e
-
+-- Texts: the bytes of one character, ASCII
 pub char-text : (c : ℕ) → scalar c ≡ true → claims.Text (encode c)
 unfolding encoded
 char-text c s = record { values = c ∷ []; scalars = (s, tt); bytes-of = append-nil (encode c) }

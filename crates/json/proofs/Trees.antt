@@ -1,21 +1,20 @@
 -- Trees: a text ends by its own form, and says its tree.
-use mathlib.Core.Path.{_≡_, refl, sym, ap, _∙_}
-use mathlib.Core.Bool.{Bool, true, false, cond}
-use mathlib.Core.Logic.{_⊎_, inl, inr}
-use mathlib.Core.List.{List, [], _∷_, _++_, append-assoc}
-use Prim.Native.Nat.{ℕ, zero, suc, _+_, _≤_, _<_}
+use mathlib.Core.Path.{_≡_, refl, sym, _∙_}
+use mathlib.Core.Bool.{true}
+use mathlib.Core.Logic.{inl}
+use mathlib.Core.List.{List, [], _∷_, _++_, append-assoc, append-cancel-left as cancel}
+use Prim.Native.Nat.{ℕ, _≤_}
 use native.Mathlib.Omega.{arith}
-use lib.Dec.{eqb, ltb}
 use borrow.Author.Tests.{ltb-true, eqb-true}
 use Rattle.grammar.specs.Tree.{Tree, infixed, node, Trees, nil, _▸_}
 use Rattle.slots.specs.Slots.{Many, no as nowhere, one as single, at-most-one, any, some, slot, counts, how-many}
 use Rattle.lines.specs.Lines.{letters}
 use Rattle.payloads.specs.Fields.{Field}
 use Rattle.payloads.specs.Needs.{needs}
-use Rattle.json.specs.Json.{name, head, listed, array, object-or-null, child, member, text, texts}
+use Rattle.json.specs.Json.{head, listed, array, object-or-null, child, member, text, texts}
 use Rattle.json.specs.Claims.{Alike, rows, infixes, EachAlike, none, more}
 use Rattle.json.proofs.Decimal.{Stops}
-use Rattle.json.proofs.Rows.{cancel, Row, Same, Heads, head-law, child-law, stops-child, stops-member, behind, listed-behind}
+use Rattle.json.proofs.Rows.{Row, Same, head-law, child-law, stops-child, stops-member, behind, listed-behind}
 
 -- The slots of a row hold as many trees as they take.
 pub record Counted (k : ℕ) (a b c d : Trees) : Type 0 where
@@ -76,7 +75,7 @@ not-open fs t b x y h e =
     let f : b ∷ x ≡ 0x7B ∷ (o .rest ++ y) = rw (o .whole) at e in
     h (cc)
 
-infix-row : (fs : List Field) (p : ℕ) → Row fs 12 p
+pub infix-row : (fs : List Field) (p : ℕ) → Row fs 12 p
 unfolding needs
 infix-row fs p = record { known = inl (omega arith, omega arith); proper = λ h. absurd (h refl) }
 

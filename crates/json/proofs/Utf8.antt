@@ -1,8 +1,8 @@
 -- What the grammar of RFC 8259 accepts is well-formed UTF-8, and so is every text.
-use mathlib.Core.Path.{_≡_, refl, sym, ap, subst, _∙_}
+use mathlib.Core.Path.{_≡_, refl, sym, _∙_}
 use mathlib.Core.Bool.{true}
 use native.Mathlib.Decide.{decLt}
-use mathlib.Core.Logic.{_⊎_, inl, inr}
+use mathlib.Core.Logic.{inl, inr}
 use mathlib.Core.List.{List, [], _∷_, _++_, append-assoc}
 use Prim.Native.Nat.{ℕ, _≤_, _<_}
 use native.Mathlib.Omega.{arith}
@@ -12,7 +12,7 @@ use Rattle.unicode.proofs.Values.{encode-1}
 use Rattle.unicode.proofs.Texts.{well-formed-texts}
 use Rattle.json.specs.Claims.{WellFormed, Clear, NoControl}
 use Rattle.json.specs.Rfc as rfc
-use Rattle.json.proofs.Texts.{Ascii, ascii-text, char-text, High, encode-high}
+use Rattle.json.proofs.Texts.{ascii-text, char-text, High, encode-high}
 use Rattle.json.proofs.Closed.{Plain, printed, tab, line, return, text}
 use Rattle.json.proofs.Grammar.{grammatical}
 

@@ -6,30 +6,12 @@ use mathlib.Core.Logic.{⊎-elim}
 use mathlib.Core.List.{List}
 use lib.ListN.{getD}
 use Rattle.slots.proofs.Either.{less-or}
-use Rattle.trees.specs.Pool.{In, Reached, start, on, Link, root-link, word-link}
-use Rattle.trees.specs.Survey.{Told, unreached, the-root, by-two, by-one}
+use Rattle.trees.specs.Pool.{In, Reached}
 use Rattle.trees.specs.Verdict.{NoneBad}
+use Rattle.trees.proofs.Links.{linked-reached, reached-linked}
 use Rattle.trees.proofs.Sound.{inside}
 use Rattle.json_writer.specs.Deep.{most-deep, TooDeep, FirstDeep, none-deep, lowest-deep, Tied, Within, FirstLinked, none-linked, lowest-linked, Clears}
 use Rattle.json_writer.proofs.DeepPaths.{reached-at, one-depth}
-
--- what a link leads to is reached
-link-reaches : {pool : List ℕ} {root t a b : ℕ} → In pool t → Link pool root t a b → Reached pool root t
-link-reaches i (root-link e) = rw (sym e) start
-link-reaches i (word-link h s l u e) = on h l u e i
-
--- a row has a link just where it is reached
-linked-reached : {pool : List ℕ} {root t a b : ℕ} → In pool t → Told pool root t a b → (b ≡ 0 → ⊥) → Reached pool root t
-linked-reached i (unreached y z n) f = absurd (f z)
-linked-reached i (the-root y z e u) f = rw (sym e) start
-linked-reached i (by-two y z w) f = link-reaches i (w .link₁)
-linked-reached i (by-one h o l u e n v) f = on h l u e i
-
-reached-linked : {pool : List ℕ} {root t a b : ℕ} → Told pool root t a b → Reached pool root t → b ≡ 0 → ⊥
-reached-linked (unreached y z n) h f = n h
-reached-linked (the-root y z e u) h f = omega arith
-reached-linked (by-two y z w) h f = omega arith
-reached-linked (by-one h′ o l u e n v) h f = omega arith
 
 module _ (pool : List ℕ) (root : ℕ) {xs ys : List ℕ} (i : In pool root) (good : NoneBad pool root) (tied : Tied pool root xs)
     (clears : Clears (Within pool root most-deep) xs ys) where

@@ -8,6 +8,6 @@ mod Parts
 mod Wholes
 mod Members
 mod Checked
-mod Outcomes
+pub mod Outcomes
 pub mod Same
 pub mod Determined

@@ -2,7 +2,7 @@
 use Prim.Native.Nat.{ℕ, suc, _+_, _-_, _≤_, _<_}
 use native.Mathlib.Omega.{arith}
 use mathlib.Core.Path.{_≡_, refl, sym, ap, subst, _∙_}
-use mathlib.Core.Bool.{Bool, true, false, cond, _&&_, _||_}
+use mathlib.Core.Bool.{Bool, true, false, cond}
 use mathlib.Core.List.{List}
 use lib.Dec.{eqb, ltb}
 use native.Mathlib.Decide.{decLt}
@@ -13,8 +13,7 @@ use Rattle.payloads.specs.Fields.{Field, fields-of, class-at}
 use Rattle.payloads.specs.Needs.{needs, placed}
 use Rattle.trees.specs.Pool.{In, row-fine, Reached, Holds, infix-row, row, HoldsAll, none, more}
 use Rattle.json.specs.Claims.{all-placed, each-placed}
-use Rattle.json.proofs.Names.{both}
-use Rattle.json_writer.specs.Deep.{Begins}
+use Rattle.json.proofs.Injective.{place, infix-placed, more-placed}
 use Rattle.json_writer.specs.Ready.{higher, tall, tallest, Ready, AllReady}
 use Rattle.json_writer.proofs.DeepClears.{begins-0, begins-1, begins-2, begins-3, begins-next}
 
@@ -73,27 +72,13 @@ none-tall : tallest nil ≡ 0
 unfolding tall
 none-tall = refl
 
-infix-placed : (fs : List Field) (k p : ℕ) → k ≡ 12 → placed fs k p ≡ true
+infix-row-placed : (fs : List Field) (k p : ℕ) → k ≡ 12 → placed fs k p ≡ true
 unfolding placed needs
-infix-placed fs k p e = rw e
-
-infix-parts : (fs : List Field) (m p : ℕ) (l r : Tree) (z : ℕ) → all-placed fs (infixed m p l r z) ≡ true → (all-placed fs l ≡ true) × (all-placed fs r ≡ true)
-unfolding all-placed
-infix-parts fs m p l r z e = both (all-placed fs l) (all-placed fs r) e
+infix-row-placed fs k p e = rw e
 
 infix-tall : (m p : ℕ) (l r : Tree) (z : ℕ) → (suc (tall l) ≤ tall (infixed m p l r z)) × (suc (tall r) ≤ tall (infixed m p l r z))
 unfolding tall
 infix-tall m p l r z = (omega (arith, higher-left (tall l) (tall r)), omega (arith, higher-right (tall l) (tall r)))
-
-node-parts : (fs : List Field) (k m p : ℕ) (a b c d : Trees) (z : ℕ) → all-placed fs (node k m p a b c d z) ≡ true
-    → (placed fs k p ≡ true) × (each-placed fs a ≡ true) × (each-placed fs b ≡ true) × (each-placed fs c ≡ true) × (each-placed fs d ≡ true)
-unfolding all-placed
-node-parts fs k m p a b c d z e =
-    let (e1, d1) = both _ (each-placed fs d) e in
-    let (e2, c1) = both _ (each-placed fs c) e1 in
-    let (e3, b1) = both _ (each-placed fs b) e2 in
-    let (r, a1) = both (placed fs k p) (each-placed fs a) e3 in
-    (r, a1, b1, c1, d1)
 
 node-tall : (k m p : ℕ) (a b c d : Trees) (z : ℕ) → (suc (tallest a) ≤ tall (node k m p a b c d z)) × (suc (tallest b) ≤ tall (node k m p a b c d z))
     × (suc (tallest c) ≤ tall (node k m p a b c d z)) × (suc (tallest d) ≤ tall (node k m p a b c d z))
@@ -116,7 +101,7 @@ record HasSlots (pool : List ℕ) (fs : List Field) (r left : ℕ) : Type 0 wher
 
 slots-of : {pool : List ℕ} {fs : List Field} {r left : ℕ} {t : Tree} → Holds pool r t → all-placed fs t ≡ true → tall t ≤ left → HasSlots pool fs r left
 slots-of {pool} {fs} {r} {left} {t} (infix-row l k e hl hk h2 h3 q) p h =
-    let (pl, pk) = infix-parts fs _ _ l k _ (rw q at p) in
+    let (pl, pk) = infix-placed fs _ _ _ l k (rw q at p) in
     let (tl, tk) = infix-tall (word-of pool r 1) (word-of pool r 2) l k (word-of pool r 8) in
     let g : tall (infixed (word-of pool r 1) (word-of pool r 2) l k (word-of pool r 8)) ≤ left = rw q at h in
     record {
@@ -129,11 +114,11 @@ slots-of {pool} {fs} {r} {left} {t} (infix-row l k e hl hk h2 h3 q) p h =
         in-1 = (hk, one-placed fs k pk, omega (arith, one-tall k));
         in-2 = (h2, none-placed fs, omega (arith, none-tall));
         in-3 = (h3, none-placed fs, omega (arith, none-tall));
-        its-row = infix-placed fs (word-of pool r 0) (word-of pool r 2) e;
+        its-row = infix-row-placed fs (word-of pool r 0) (word-of pool r 2) e;
       };
     }
 slots-of {pool} {fs} {r} {left} {t} (row a b c d n ha hb hc hd q) p h =
-    let (o, pa, pb, pc, pd) = node-parts fs _ _ _ a b c d _ (rw q at p) in
+    let g₀ = place fs _ _ _ _ a b c d (rw q at p) in
     let (ta, tb, tc, td) = node-tall (word-of pool r 0) (word-of pool r 1) (word-of pool r 2) a b c d (word-of pool r 8) in
     let g : tall (node (word-of pool r 0) (word-of pool r 1) (word-of pool r 2) a b c d (word-of pool r 8)) ≤ left = rw q at h in
     record {
@@ -142,11 +127,11 @@ slots-of {pool} {fs} {r} {left} {t} (row a b c d n ha hb hc hd q) p h =
       c = c;
       d = d;
       slots = record {
-        in-0 = (ha, pa, omega arith);
-        in-1 = (hb, pb, omega arith);
-        in-2 = (hc, pc, omega arith);
-        in-3 = (hd, pd, omega arith);
-        its-row = o;
+        in-0 = (ha, g₀ .in-0, omega arith);
+        in-1 = (hb, g₀ .in-1, omega arith);
+        in-2 = (hc, g₀ .in-2, omega arith);
+        in-3 = (hd, g₀ .in-3, omega arith);
+        its-row = g₀ .row;
       };
     }
 
@@ -177,10 +162,6 @@ module _ {pool file : List ℕ} {r left : ℕ} (y : Ready pool file r left) wher
 record Two (pool file : List ℕ) (c left : ℕ) : Type 0 where
   first : Ready pool file c left
   rest : AllReady pool file (word-of pool c 7) left
-
-more-placed : (fs : List Field) (t : Tree) (ts : Trees) → each-placed fs (t ▸ ts) ≡ true → (all-placed fs t ≡ true) × (each-placed fs ts ≡ true)
-unfolding all-placed
-more-placed fs t ts e = both (all-placed fs t) (each-placed fs ts) e
 
 more-tall : (t : Tree) (ts : Trees) → (tall t ≤ tallest (t ▸ ts)) × (tallest ts ≤ tallest (t ▸ ts))
 unfolding tall

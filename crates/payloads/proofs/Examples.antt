@@ -12,7 +12,7 @@ use Rattle.payloads.specs.Fields.{NoClass, cut, fields-of}
 use Rattle.payloads.specs.Index.{held, answer, answered, begins, laid, class-by, size-by, payload-by}
 
 -- the identifier ab and then EOF
-abbrev two : List ℕ
+abbrev pub two : List ℕ
 two = 7 ∷ 0 ∷ 2 ∷ 0x61 ∷ 0x62 ∷ 2 ∷ 0 ∷ 0 ∷ []
 
 -- it has two fields, which begin at 0 and at 5
@@ -46,7 +46,7 @@ unfolding class-by size-by payload-by
 astray = (refl, refl, refl)
 
 -- EOF and a Char of three bytes is refused at field 1, and no place is left
-abbrev bad : List ℕ
+abbrev pub bad : List ℕ
 bad = 2 ∷ 0 ∷ 0 ∷ 6 ∷ 0 ∷ 3 ∷ 1 ∷ 2 ∷ 3 ∷ []
 
 pub bad-held : held bad ≡ refused 5 1

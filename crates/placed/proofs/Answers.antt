@@ -5,59 +5,27 @@ use mathlib.Core.Path.{_≡_, refl, sym, _∙_}
 use mathlib.Core.Bool.{false}
 use mathlib.Core.Logic.{⊎-elim}
 use mathlib.Core.List.{List}
-use lib.ListN.{length, getD}
 use borrow.Author.Tests.{eq-eqb, ne-eqb, lt-ltb, le-ltb}
 use Rattle.grammar.specs.Script.{word-of}
-use Rattle.files.specs.File.{Content, read, refused}
 use Rattle.payloads.specs.declared.Indexed.the-variants as an
 use Rattle.payloads.specs.Fields.{fields-of}
 use Rattle.payloads.specs.Needs.{placed}
 use Rattle.payloads.specs.Index.{held, answered, laid}
-use Rattle.payloads.proofs.Held.{Given, held-given, as-refused, Counted}
+use Rattle.payloads.proofs.Held.{Counted, turned-down}
 use Rattle.payloads.proofs.LooksUp.{looks-up}
 use Rattle.slots.proofs.Either.{same-or, less-or}
 use Rattle.trees.specs.declared.Checked.{Checked}
-use Rattle.trees.specs.Pool.{In, Reached, start, on, Link, root-link, word-link, Bad}
-use Rattle.trees.specs.Survey.{Told, unreached, the-root, by-two, by-one, Surveyed}
+use Rattle.trees.specs.Pool.{In, Reached, Bad}
+use Rattle.trees.specs.Survey.{Surveyed}
 use Rattle.trees.specs.Verdict.{Lowest, Verdict, no-root, bad-row, a-tree}
 use Rattle.trees.specs.Leaves.{Leaves}
+use Rattle.trees.proofs.Links.{reached-in, linked-reached, reached-linked}
 use Rattle.placed.specs.declared.Placed.{Placed}
 use Rattle.placed.specs.declared.Placed.the-variants as answer
 use Rattle.placed.specs.Over.{LowestOf, Wrong, bad, misplaced, Over}
 use Rattle.placed.specs.Over as over
 use Rattle.placed.specs.Steps.{placed-by, Misplaced, FirstMisplaced, none, lowest, lower, Answers}
 use Rattle.placed.specs.Left.{Left}
-
--- what a refused file holds
-held-refused : (bytes : List ℕ) {number place : ℕ} → answered (held bytes) ≡ an.Refused number place → held bytes ≡ refused number place
-held-refused bytes {number} {place} e = go (held bytes) refl (held-given bytes) e
-  where
-    go : (c : Content) → held bytes ≡ c → Given (length bytes) c → answered c ≡ an.Refused number place → held bytes ≡ refused number place
-    go (read words) q k f = absurd (let z : _≡_ {A = ℕ} 0 1 = cc in omega arith)
-    go (refused m p) q k f = let s = as-refused k in cc
-
-module _ {pool : List ℕ} {root : ℕ} where
-  -- a row with a link is one that the root reaches
-  link-reaches : {t a b : ℕ} → In pool t → Link pool root t a b → Reached pool root t
-  link-reaches i (root-link e) = rw (sym e) start
-  link-reaches i (word-link x y z u v) = on x z u v i
-
-  told-reached : {t owner word : ℕ} → In pool t → Told pool root t owner word → (word ≡ 0 → ⊥) → Reached pool root t
-  told-reached i (unreached y z n) l = absurd (l z)
-  told-reached i (the-root y z e u) l = rw (sym e) start
-  told-reached i (by-two y z w) l = link-reaches i (w .link₁)
-  told-reached i (by-one x p lo hi e nr u) l = on x lo hi e i
-
-  -- and no other
-  reached-told : {t owner word : ℕ} → Told pool root t owner word → Reached pool root t → word ≡ 0 → ⊥
-  reached-told (unreached y z n) x w = n x
-  reached-told (the-root y z e u) x w = omega arith
-  reached-told (by-two y z t) x w = omega arith
-  reached-told (by-one o p lo hi e nr u) x w = omega arith
-
-  pub reached-in : {t : ℕ} → In pool root → Reached pool root t → In pool t
-  reached-in i start = i
-  reached-in i (on x a b e n) = n
 
 module _ (pool bytes : List ℕ) where
   -- a row that is off its place
@@ -88,7 +56,7 @@ module _ (pool bytes : List ℕ) where
       off : (q : ℕ) → Reached pool root q → Off q → Misplaced pool links bytes starts count q
       off q x o =
           let j = reached-in i x in
-          record { inside = j; linked = reached-told (s .each q j) x; wrong = as-placed q ∙ o }
+          record { inside = j; linked = reached-linked (s .each q j) x; wrong = as-placed q ∙ o }
 
       -- so the first misplaced row is the lowest of them
       none-off : {w : ℕ} → FirstMisplaced pool links bytes starts count w → w ≡ 0 → (q : ℕ) → Reached pool root q → Off q → ⊥
@@ -100,7 +68,7 @@ module _ (pool bytes : List ℕ) where
       lowest-off (lowest {r} m n) z =
           record {
             inside = m .inside;
-            reached = told-reached (m .inside) (s .each r (m .inside)) (m .linked);
+            reached = linked-reached (m .inside) (s .each r (m .inside)) (m .linked);
             has = sym (as-placed r) ∙ m .wrong;
             first = λ q h x o. n q h (off q x o);
           }
@@ -130,7 +98,7 @@ module _ (pool bytes : List ℕ) where
 -- a refused file decides alone
 pub over-refused : {pool links bytes : List ℕ} {c : Checked} {number place : ℕ} → answered (held bytes) ≡ an.Refused number place
     → Answers pool c links bytes (answer.Refused number place)
-over-refused {pool} {links} {bytes} e root n owners queue l = over.bad-file (held-refused bytes e)
+over-refused {pool} {links} {bytes} e root n owners queue l = over.bad-file (turned-down bytes e)
 
 -- what is left by the survey and the answer
 pub left-by : {pool bytes starts owners links queue : List ℕ} {root n : ℕ} {c : Checked} {r : Placed} → Leaves pool root n c owners links queue

@@ -11,22 +11,15 @@ use Rattle.slots.specs.Slots.{any-root, slot, kind-of, of-expressions, of-state
 use Rattle.slots.proofs.Either.{no-both}
 use Rattle.payloads.specs.Fields.{cut, fields-of, class-at}
 use Rattle.payloads.specs.Needs.{needs, placed}
-use Rattle.payloads.proofs.Examples.{two-held, bad-held}
+use Rattle.payloads.proofs.Examples.{two, two-held, bad, bad-held}
 use Rattle.trees.specs.Pool.{In, Reached, start}
 use Rattle.trees.specs.Exact.{IsTree}
+use Rattle.trees.proofs.Links.{reached-in}
 use Rattle.trees.proofs.Exact.{none-bad}
 use Rattle.trees.proofs.Laid.{laid}
 use Rattle.placed.specs.declared.Placed.the-variants.{Fields, Refused}
 use Rattle.placed.specs.Over.{LowestOf, Wrong, misplaced, Over, bad-file, no-root, wrong-row, a-tree}
 use Rattle.placed.specs.Over as over
-use Rattle.placed.proofs.Answers.{reached-in}
-
--- the file, and one that is refused
-abbrev two : List ℕ
-two = 7 ∷ 0 ∷ 2 ∷ 0x61 ∷ 0x62 ∷ 2 ∷ 0 ∷ 0 ∷ []
-
-abbrev bad : List ℕ
-bad = 2 ∷ 0 ∷ 0 ∷ 6 ∷ 0 ∷ 3 ∷ 1 ∷ 2 ∷ 3 ∷ []
 
 -- the identifier whose place is p, and its row
 abbrev name : ℕ → Tree

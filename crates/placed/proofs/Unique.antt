@@ -1,25 +1,18 @@
 -- The check over a file has one answer, and leaves one thing.
-use Prim.Native.Nat.{ℕ, zero, suc, _<_}
+use Prim.Native.Nat.{ℕ}
 use native.Mathlib.Omega.{arith}
 use mathlib.Core.Path.{_≡_, refl, ap, sym, _∙_}
 use mathlib.Core.Logic.{⊎-elim}
 use mathlib.Core.List.{List}
-use lib.ListN.{length, getD}
-use lib.Seq.{ext-getD}
+use lib.ListN.{length}
 use Rattle.files.specs.File.{Content, read, refused}
-use Rattle.slots.proofs.Either.{same-or, less-or}
-use Rattle.trees.specs.declared.Checked.{Checked}
-use Rattle.trees.specs.declared.Checked.the-variants as checked
-use Rattle.trees.specs.Pool.{In, Reached, Bad}
-use Rattle.trees.specs.Verdict as trees
-use Rattle.trees.specs.Leaves.{Leaves}
-use Rattle.trees.proofs.Sound.{sound}
-use Rattle.trees.proofs.Unique.{one-leaving, one-zero}
+use Rattle.slots.proofs.Either.{less-or}
+use Rattle.trees.proofs.Links.{in-or, one-survey}
+use Rattle.trees.proofs.Unique.{one-zero}
 use Rattle.placed.specs.declared.Placed.{Placed}
 use Rattle.placed.specs.declared.Placed.the-variants as answer
 use Rattle.placed.specs.Over.{LowestOf, Over, bad-file, no-root, wrong-row, a-tree}
 use Rattle.placed.specs.Left.{Left}
-use Rattle.placed.proofs.Answers.{reached-in}
 
 pub one-lowest-of : {pool : List ℕ} {root p q : ℕ} {P : ℕ → Type 0} → LowestOf pool root P p → LowestOf pool root P q → p ≡ q
 one-lowest-of {pool} {root} {p} {q} l m =
@@ -49,41 +42,24 @@ one-over (a-tree t e i g h o) (no-root f n) = absurd (n i)
 one-over (a-tree t e i g h o) (wrong-row {words} {p} f j l) = absurd (g p (l .reached) (l .has))
 one-over (a-tree {words} t e i g h o) (a-tree {words = words′} t′ f j g′ h′ o′) = let x : words ≡ words′ = cc in ap (λ ws. answer.Fields (length ws)) x
 
--- that the trees' check has an answer can't be denied, so what follows from any of them holds of numbers
-module _ (pool : List ℕ) (root : ℕ) (no : (c : Checked) → trees.Verdict pool root c → ⊥) where
-  none-below : In pool root → (n q : ℕ) → q < n → Reached pool root q → Bad pool root q → ⊥
-  none-below i zero q h x b = omega arith
-  none-below i (suc n) q h x b =
-      no (checked.Refused 38 q) (trees.bad-row i (record { inside = reached-in i x; reached = x; bad = b; first = λ p g. none-below i n p (omega arith) }))
-
-  no-answer : ⊥
-  no-answer =
-      no (checked.Refused 38 0)
-      (trees.no-root
-      (λ i.
-      let g : trees.NoneBad pool root = λ q. none-below i (suc q) q (omega arith) in
-      let t = sound pool root g i in
-      no checked.Tree (trees.a-tree (t .tree) i g (t .holds) (t .fit))))
-
+-- the links that are left are those of one survey, or none where the root is no row
 module _ {pool bytes : List ℕ} {root n : ℕ} where
-  leaving : {r : Placed} {starts owners words queue : List ℕ} → Left pool root bytes n r starts owners words queue → {c : Checked} → trees.Verdict pool root c
-      → Leaves pool root n c owners words queue
-  leaving l v =
-      record { verdict = v; owners-long = l .owners-long; words-long = l .words-long; links = l .links; none = l .none; queue-none = l .queue-none }
-
-  -- so the links that are left are the same
   module _ {r r′ : Placed} {starts owners words queue starts′ owners′ words′ queue′ : List ℕ} (l : Left pool root bytes n r starts owners words queue)
       (m : Left pool root bytes n r′ starts′ owners′ words′ queue′) where
-    same-number : (f : List ℕ → List ℕ → ℕ) → f owners words ≡ f owners′ words′
-    same-number f =
-        ⊎-elim (λ e. e) (λ d. absurd (no-answer pool root (λ c v. d (ap (λ x. f (x .1) (x .2)) (one-leaving (leaving l v) (leaving m v))))))
-        (same-or (f owners words) (f owners′ words′))
+    same-links : (owners ≡ owners′) × (words ≡ words′)
+    same-links =
+        ⊎-elim (λ i. one-survey (l .links i) (m .links i) (l .owners-long ∙ sym (m .owners-long)) (l .words-long ∙ sym (m .words-long)))
+        (λ out.
+        let y = l .none out in
+        let z = m .none out in
+        (one-zero (y .0) (z .0), one-zero (y .1) (z .1)))
+        (in-or pool root)
 
     pub one-left : _≡_ {A = Placed × List ℕ × List ℕ × List ℕ × List ℕ} (r, starts, owners, words, queue) (r′, starts′, owners′, words′, queue′)
     one-left =
         let e : r ≡ r′ = one-over (l .verdict) (m .verdict) in
         let s : starts ≡ starts′ = l .index ∙ sym (m .index) in
-        let o : owners ≡ owners′ = ext-getD 0 owners owners′ (l .owners-long ∙ sym (m .owners-long)) (λ t h. same-number (λ xs ys. getD xs t 0)) in
-        let w : words ≡ words′ = ext-getD 0 words words′ (l .words-long ∙ sym (m .words-long)) (λ t h. same-number (λ xs ys. getD ys t 0)) in
+        let o = same-links .0 in
+        let w = same-links .1 in
         let q : queue ≡ queue′ = one-zero (l .queue-none) (m .queue-none) in
         cc

@@ -12,7 +12,7 @@ use Rattle.trees.specs.Pool.{count, In, Reached, start, on, Link, root-l
 use Rattle.trees.specs.Survey.{Told, unreached, the-root, by-two, by-one, Surveyed}
 
 -- a row of the pool or not
-in-or : (pool : List ℕ) (t : ℕ) → In pool t ⊎ (In pool t → ⊥)
+pub in-or : (pool : List ℕ) (t : ℕ) → In pool t ⊎ (In pool t → ⊥)
 in-or pool t =
     ⊎-elim (λ a. inr (λ o. omega (arith, o)))
     (λ a. ⊎-elim (λ b. inr (λ o. omega (arith, o))) (λ b. inl (a, b)) (less-or (count pool) t))
@@ -28,6 +28,19 @@ module _ {pool : List ℕ} {root : ℕ} where
   pub link-reaches : {t a b : ℕ} → In pool t → Link pool root t a b → Reached pool root t
   link-reaches i (root-link e) = rw (sym e) start
   link-reaches i (word-link x y z u v) = on x z u v i
+
+  -- a row has a link just where it is reached
+  pub linked-reached : {t a b : ℕ} → In pool t → Told pool root t a b → (b ≡ 0 → ⊥) → Reached pool root t
+  linked-reached i (unreached y z n) f = absurd (f z)
+  linked-reached i (the-root y z e u) f = rw (sym e) start
+  linked-reached i (by-two y z w) f = link-reaches i (w .link₁)
+  linked-reached i (by-one h o l u e n v) f = on h l u e i
+
+  pub reached-linked : {t a b : ℕ} → Told pool root t a b → Reached pool root t → b ≡ 0 → ⊥
+  reached-linked (unreached y z n) h f = n h
+  reached-linked (the-root y z e u) h f = omega arith
+  reached-linked (by-two y z w) h f = omega arith
+  reached-linked (by-one h′ o l u e n v) h f = omega arith
 
   -- what no word of a reached row refers to is not reached twice
   root-link-only : {t a b : ℕ} → ((r k : ℕ) → Reached pool root r → 3 ≤ k → k ≤ 7 → word-of pool r k ≡ t → ⊥) → Link pool root t a b → (a ≡ 0) × (b ≡ 0)

@@ -17,7 +17,7 @@ pub fn row(kind: Kind, children: [u32; 4]) -> Row {
     Row { children, ..Row::new(kind, 0) }
 }
 
-/// The pool of a line of the table.
+/// The pool of a line of a table.
 pub fn rows_of(line: &str) -> Vec<u32> {
     let row = |text: &str| {
         let mut words: Vec<u32> = text.split_whitespace().map(number).collect();
