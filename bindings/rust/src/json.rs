@@ -2,10 +2,14 @@
 //!
 //! # Why the unsafe code is sound
 //!
-//! A `str` must be well-formed UTF-8. That each text is, is proved of the library (`docs/CLAIMS.md`,
-//! `WellFormed`): the text by its definition, which the bytes in front of the buffer then are, as many as
-//! the answer says. What is left to see to here is that they are those that were just written: the `str`
-//! is made right behind the call, and borrows the buffer.
+//! A `str` must be well-formed UTF-8. It is proved of the library (`docs/CLAIMS.md`) that where it accepts,
+//! the text of the tree, as it is defined, stands in front of the buffer, as long as the answer says
+//! (`Tells`), and that each such text is well-formed UTF-8 (`WellFormed`).
+//!
+//! What is left to see to here is that the bytes are those: the `str` is made right behind the call, of
+//! so many bytes, and borrows the buffer.
+//!
+//! What is trusted: that the library is the one that this repository builds.
 #![allow(unsafe_code)]
 use crate::answer::counted;
 use crate::{raw, Reason, Refusal, MOST_ROWS, PAYLOAD_BYTES, ROW_BYTES, ROW_WORDS};

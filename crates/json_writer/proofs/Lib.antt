@@ -3,7 +3,6 @@ pub mod DeepPaths
 mod DeepClears
 mod DeepTurns
 mod DeepFirst
-mod Names
 mod Parts
 mod Wholes
 mod Members

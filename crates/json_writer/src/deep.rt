@@ -6,7 +6,7 @@ ghost use Rattle.trees.specs.Verdict.{NoneBad};
 ghost use Rattle.json_writer.specs.Deep.{FirstDeep, Tied, Begins, Within, FirstLinked, Clears};
 
 // The most rows on a path from a root through children.
-const MOST_DEEP: usize = 128;
+pub const MOST_DEEP: usize = 128;
 
 // Where in its row the next row's reference stands.
 const NEXT: usize = 7;

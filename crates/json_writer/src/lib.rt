@@ -3,6 +3,7 @@ mod deep;
 mod head;
 mod row;
 
+use deep::MOST_DEEP;
 use deep::first_deep;
 use placed::Placed;
 use row::put_row;
@@ -18,9 +19,6 @@ ghost use Rattle.json_writer.specs.Tells.{Tells};
 const TOO_DEEP: u32 = 34;
 
 const TOO_SHORT: u32 = 32;
-
-// The most rows on a path from the root through children.
-const MOST_DEEP: usize = 128;
 
 // What writing a tree answers: the length of its text; or a refusal, by its number and place.
 pub enum Told {

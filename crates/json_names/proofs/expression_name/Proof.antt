@@ -2,10 +2,10 @@
 use native.Mathlib.Omega.{arith}
 use Rattle.tokens.proofs.Tests.{past}
 use Rattle.json.specs.Json.{expression-names}
-use Rattle.json_writer.proofs.Names.{expression-arm, no-expression}
+use Rattle.json_names.proofs.Names.{expression-arm, no-expression}
 use borrow.Author.Needs.{needs}
-use Rattle.json_writer.proofs.head.expression_name.Statement.{statement}
-use Rattle.json_writer.proofs.head.expression_name.Tie as tie
+use Rattle.json_names.proofs.expression_name.Statement.{statement}
+use Rattle.json_names.proofs.expression_name.Tie as tie
 
 slice-aggregate-put-quoted : tie.Need-slice-aggregate-put-quoted
 slice-aggregate-put-quoted c = search needs

@@ -2,8 +2,8 @@
 use borrow.Author.Tests.{lt-ltb, le-ltb}
 use Rattle.json.specs.Json.{name}
 use borrow.Author.Needs.{needs}
-use Rattle.json_writer.proofs.head.put_name.Statement.{statement}
-use Rattle.json_writer.proofs.head.put_name.Tie as tie
+use Rattle.json_names.proofs.put_name.Statement.{statement}
+use Rattle.json_names.proofs.put_name.Tie as tie
 
 expression-name-requires : tie.Need-expression-name-requires
 expression-name-requires c κs = search needs

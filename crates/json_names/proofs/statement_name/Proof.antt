@@ -1,10 +1,10 @@
 -- `statement_name` meets its contract: each arm has its kind's name, and what has no arm has none.
 use Rattle.tokens.proofs.Tests.{past}
 use Rattle.json.specs.Json.{statement-names}
-use Rattle.json_writer.proofs.Names.{statement-arm, no-statement}
+use Rattle.json_names.proofs.Names.{statement-arm, no-statement}
 use borrow.Author.Needs.{needs}
-use Rattle.json_writer.proofs.head.statement_name.Statement.{statement}
-use Rattle.json_writer.proofs.head.statement_name.Tie as tie
+use Rattle.json_names.proofs.statement_name.Statement.{statement}
+use Rattle.json_names.proofs.statement_name.Tie as tie
 
 slice-aggregate-put-quoted : tie.Need-slice-aggregate-put-quoted
 slice-aggregate-put-quoted c = search needs
