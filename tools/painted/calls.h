@@ -1,21 +1,25 @@
-/* The ten functions as jobs for a painted stack, and what a call of each takes beyond an empty function's. */
+/* The twelve functions as jobs for a painted stack, and what a call of each takes beyond an empty function's. */
 #ifndef STACK_CALLS_H
 #define STACK_CALLS_H
 
 #include "shigthapul.h"
 #include "paint.h"
 
-/* The check and the writer stand here twice, as what they take goes by the pool's rows: few, up to SHIGTHAPUL_SMALL_ROWS,
-   and any number. */
+/* The check and the two writers stand here twice, as what they take goes by the pool's rows: few, up to
+   SHIGTHAPUL_SMALL_ROWS, and any number. */
 enum function {
     ONE_EXPRESSION, ONE_STATEMENT, WHOLE_SCRIPT, READ_FILE, FOLD, TEXT,
-    CHECK_SMALL, WRITE_SMALL, CHECK_FEW, WRITE_FEW, CHECK, WRITE, FUNCTIONS
+    CHECK_SMALL, WRITE_SMALL, JSON_SMALL, CHECK_FEW, WRITE_FEW, JSON_FEW, CHECK, WRITE, JSON, FUNCTIONS
 };
 
 /* The largest inputs: tokens of an array, bytes of a file, and bytes of a payload, which has no limit of its own. */
 enum { MOST_TOKENS = 32768, MOST_BYTES = 60000, MOST_PAYLOAD = 1 << 20 };
 enum { POOL_WORDS = SHIGTHAPUL_ROW_WORDS * SHIGTHAPUL_MOST_ROWS };
 enum { WRITTEN_TOKENS = SHIGTHAPUL_ROW_TOKENS * SHIGTHAPUL_MOST_ROWS };
+
+/* The bytes of a row's JSON text with a short payload, and of the longest text: every row, and a file's bytes beside. */
+enum { MOST_ROW_TEXT = SHIGTHAPUL_ROW_BYTES + 32 };
+enum { MOST_TEXT = MOST_ROW_TEXT * SHIGTHAPUL_MOST_ROWS + SHIGTHAPUL_PAYLOAD_BYTES * MOST_BYTES };
 
 /* What is lent, with a little room past the limits. */
 static uint16_t lent_tokens[MOST_TOKENS + 2];
@@ -24,10 +28,11 @@ static uint8_t lent_bytes[MOST_PAYLOAD];
 static uint8_t lent_work[MOST_PAYLOAD];
 static uint16_t lent_words[WRITTEN_TOKENS];
 static uint32_t lent_places[WRITTEN_TOKENS];
+static uint8_t lent_json[MOST_TEXT];
 
 /* How much of it, in which mode, and the answer. */
 static struct {
-    size_t tokens, start, pool, bytes, work, root, words, places;
+    size_t tokens, start, pool, bytes, work, root, words, places, json;
     bool strict;
 } lent;
 static struct shigthapul_answer answer;
@@ -39,6 +44,7 @@ typedef void to_work(const uint8_t *, size_t, uint8_t *, size_t, uint64_t *, siz
 typedef void from_work(const uint8_t *, size_t, const uint8_t *, size_t, uint64_t *, size_t);
 typedef void of_tree(const uint32_t *, size_t, size_t, uint64_t *, size_t);
 typedef void to_tokens(const uint32_t *, size_t, size_t, uint16_t *, size_t, uint32_t *, size_t, uint64_t *, size_t);
+typedef void to_json(const uint32_t *, size_t, size_t, const uint8_t *, size_t, uint8_t *, size_t, uint64_t *, size_t);
 
 /* A function of one of these types, or the empty function below. */
 union callee {
@@ -49,6 +55,7 @@ union callee {
     from_work *from_work;
     of_tree *of_tree;
     to_tokens *to_tokens;
+    to_json *to_json;
     void (*empty)(void);
 };
 
@@ -85,6 +92,11 @@ static void job_to_tokens(void) {
                    SHIGTHAPUL_ANSWER_WORDS);
 }
 
+static void job_to_json(void) {
+    call.to_json(lent_pool, lent.pool, lent.root, lent_bytes, lent.bytes, lent_json, lent.json, answer.words,
+                 SHIGTHAPUL_ANSWER_WORDS);
+}
+
 /* An empty function. By the rules of calls on x86-64 it can be called with any arguments. */
 static void nothing(void) {
 }
@@ -102,10 +114,13 @@ static const struct {
     [TEXT] = {job_from_work, {.from_work = shigthapul_text}},
     [CHECK_SMALL] = {job_of_tree, {.of_tree = shigthapul_check_small}},
     [WRITE_SMALL] = {job_to_tokens, {.to_tokens = shigthapul_write_small}},
+    [JSON_SMALL] = {job_to_json, {.to_json = shigthapul_json_small}},
     [CHECK_FEW] = {job_of_tree, {.of_tree = shigthapul_check}},
     [WRITE_FEW] = {job_to_tokens, {.to_tokens = shigthapul_write}},
+    [JSON_FEW] = {job_to_json, {.to_json = shigthapul_json}},
     [CHECK] = {job_of_tree, {.of_tree = shigthapul_check}},
     [WRITE] = {job_to_tokens, {.to_tokens = shigthapul_write}},
+    [JSON] = {job_to_json, {.to_json = shigthapul_json}},
 };
 
 /* The depth of a function's job, which calls that function, or the empty one. */

@@ -1,10 +1,11 @@
-/* Measures how much stack the ten functions take, and prints tables: the deepest nests of every form, mixes of them, and
+/* Measures how much stack the twelve functions take, and prints tables: the deepest nests of every form, mixes of them, and
    the largest inputs, in both modes; and trees. The status is 1 if a nest is not as deep as it should be, or if a function
    on trees takes more than it may. */
 #define _XOPEN_SOURCE 700
 #define _DEFAULT_SOURCE
 
 #include "inputs.h"
+#include "json.h"
 #include "mixes.h"
 #include "patterns.h"
 #include "self_test.h"
@@ -79,6 +80,7 @@ int main(int count, char **words) {
         payloads();
     }
     all_trees();
+    all_jsons();
     print_worst();
     return faults == 0 ? 0 : 1;
 }

@@ -13,14 +13,18 @@ static const char *const NAMES[FUNCTIONS] = {
     [TEXT] = "text",
     [CHECK_SMALL] = "check_small",
     [WRITE_SMALL] = "write_small",
+    [JSON_SMALL] = "json_small",
     [CHECK_FEW] = "check, up to 4,096 rows",
     [WRITE_FEW] = "write, up to 4,096 rows",
+    [JSON_FEW] = "json, up to 4,096 rows",
     [CHECK] = "check",
     [WRITE] = "write",
+    [JSON] = "json",
 };
 
-/* What the functions on trees may take at most. */
-enum { FEW_BYTES = 64 * 1024, MANY_BYTES = 384 * 1024 };
+/* What the functions on trees may take at most: those that write JSON also keep an index of the file, and the rows of a
+   path. */
+enum { FEW_BYTES = 64 * 1024, MANY_BYTES = 384 * 1024, FEW_JSON_BYTES = 128 * 1024, MANY_JSON_BYTES = 448 * 1024 };
 
 /* The mode that is lent, for the functions that read tokens. */
 static const char *mode_of(enum function function) {

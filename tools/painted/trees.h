@@ -16,9 +16,18 @@ static void lend_tree(const struct flat *flat, size_t parts) {
     lent.words = lent.places = WRITTEN_TOKENS;
 }
 
+/* What a function may take. */
+static size_t most_of(enum function function) {
+    if (function == JSON)
+        return MANY_JSON_BYTES;
+    if (function == JSON_SMALL || function == JSON_FEW)
+        return FEW_JSON_BYTES;
+    return function < CHECK ? FEW_BYTES : MANY_BYTES;
+}
+
 /* Notices if the last call of a function took more than it may. */
 static void limit(enum function function, size_t bytes, const char *name) {
-    if (bytes > (function < CHECK ? FEW_BYTES : MANY_BYTES))
+    if (bytes > most_of(function))
         fault(function, "takes too much stack", name);
 }
 
