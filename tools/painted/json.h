@@ -45,19 +45,13 @@ static void are_same(struct taken few, struct taken many, const char *name) {
         fault(JSON, "takes more stack if it is longer", name);
 }
 
-/* Lends the tree of the path, with room enough. */
-static void lend_path(const char *name) {
-    lent.pool = lent.tokens = 0;
-    put_path();
-    lend_room();
-    if (lent.root != lent.pool / SHIGTHAPUL_ROW_WORDS)
-        fault(JSON, "no root", name);
-}
-
-/* Measures the path as it is. It must be refused if it is deeper than may be; so it can't be shallower than it seems. */
+/* Measures the tree of the path, with room enough. It must be refused if it is deeper than may be. So no path can be
+   shallower than it seems. */
 static struct taken tell_path(const char *name, const char *how) {
     bool past = path.count + 1 > MOST_DEEP;
-    lend_path(name);
+    lent.pool = 0;
+    put_path();
+    lend_room();
     return tell_all(past ? SHIGTHAPUL_REFUSED_DEEP_TREE : 0, name, past ? ", too deep" : how);
 }
 
@@ -65,38 +59,32 @@ static enum sort first_hole(const struct step *step) {
     return step->is == A_PAIR ? AN_EXP : step->is;
 }
 
-/* A path through a step as often as may be, around each kind of row that can stand innermost: as deep as may be, and one
-   deeper. Puts a line. */
-static void step_paths(const struct step *step, bool behind) {
-    enum { HALF = MOST_DEEP / 2 };
+/* A path of so many rows through a step as often as may be, around each row that can stand innermost: what it takes. */
+static size_t step_path(const struct step *step, size_t rows) {
     size_t most = 0;
-    double level = 0;
-    path.behind = behind;
+    enum sort hole = make_path(step, first_hole(step), rows);
     for (size_t end = 0; end < COUNT(ENDS); end++) {
         path.end = ENDS[end].kind;
-        if (make_path(step, first_hole(step), HALF) != ENDS[end].is)
-            continue;
-        size_t half = tell_path(step->name, "").small;
-        if (make_path(step, first_hole(step), MOST_DEEP) != ENDS[end].is)
-            continue;
-        size_t whole = tell_path(step->name, behind ? ", behind others" : "").small;
-        level = (double)(whole - half) / HALF;
-        most = larger(most, whole);
-    }
-    for (size_t end = 0; end < COUNT(ENDS); end++) {
-        path.end = ENDS[end].kind;
-        if (make_path(step, first_hole(step), MOST_DEEP + 1) == ENDS[end].is)
-            most = larger(most, tell_path(step->name, "").small);
+        if (ENDS[end].is == hole)
+            most = larger(most, tell_path(step->name, path.behind ? ", behind others" : "").small);
     }
     if (most == 0)
         fault(JSON, "no path", step->name);
-    put_line(step->name, level, most);
+    return most;
+}
+
+/* Paths through a step: as deep as may be, one deeper, and half as deep. Puts a line. */
+static void step_paths(const struct step *step) {
+    enum { HALF = MOST_DEEP / 2 };
+    size_t half = step_path(step, HALF), whole = step_path(step, MOST_DEEP), past = step_path(step, MOST_DEEP + 1);
+    put_line(step->name, ((double)whole - (double)half) / (MOST_DEEP - HALF), larger(whole, past));
 }
 
 static void all_steps(bool behind) {
+    path.behind = behind;
     for (size_t step = 0; step < COUNT(STEPS); step++)
         if (!behind || STEPS[step].list)
-            step_paths(&STEPS[step], behind);
+            step_paths(&STEPS[step]);
     print_lines(behind ? "Slots, behind others in their lists, by json_small" : "Slots, by json_small");
 }
 
@@ -115,10 +103,10 @@ static void make_random_path(size_t rows) {
     path.behind = random_below(2) == 0;
 }
 
-/* Paths of steps at random, as deep as may be and one deeper, and the same with one to four words changed; whatever comes
-   of that is an answer. */
+/* Paths of steps at random, as deep as may be and one deeper, and the same with one to four words changed; whatever
+   comes of that is an answer. */
 static void random_paths(void) {
-    enum { TURNS = 400 };
+    enum { TURNS = 2000 };
     for (size_t turn = 0; turn < TURNS; turn++) {
         make_random_path(MOST_DEEP + turn % 2);
         tell_path("steps at random", "");
@@ -143,8 +131,7 @@ static void long_paths(void) {
             }
 }
 
-/* As many paths in one array as a pool of so many rows has room for. They have a row less than may be, or just so many,
-   which is one too many. */
+/* As many paths of so many rows in one array as a pool has room for. The array is one more row on each of them. */
 static void path_list(size_t rows, size_t deep) {
     const uint32_t refusal = deep < MOST_DEEP ? 0 : SHIGTHAPUL_REFUSED_DEEP_TREE;
     uint32_t first = 0, last = 0;
@@ -172,8 +159,7 @@ static void place_rows(void) {
     }
 }
 
-/* How many rows the longest path of the tree that is lent has. A row that refers to others stands behind those of its
-   slots; a next stands behind the row before it. */
+/* How many rows the longest path of the tree that is lent has. */
 static size_t depth_of_tree(void) {
     static size_t deep[SHIGTHAPUL_MOST_ROWS + 1];
     static uint32_t queue[SHIGTHAPUL_MOST_ROWS + 1];
@@ -196,15 +182,9 @@ static size_t depth_of_tree(void) {
     return most;
 }
 
-/* Measures the tree that is lent as it is refused: for its room, its file, a payload, its root, and its pool. */
-static void tell_refusals(const char *name) {
-    const uint32_t no_tree = SHIGTHAPUL_REFUSED_NO_TREE;
-    const size_t bytes = lent.bytes, words = lent.pool, root = lent.root, room = lent.json;
-    lent.json = shigthapul_count(&answer) - 1;
-    tell_all(SHIGTHAPUL_REFUSED_TOO_SHORT, name, ", with a byte too few");
-    lent.json = 0;
-    tell_all(SHIGTHAPUL_REFUSED_TOO_SHORT, name, ", with no room");
-    lent.json = room;
+/* The tree that is lent with a file that is refused: cut short, too long, and not Unicode at its end. */
+static void tell_bad_files(const char *name) {
+    const size_t bytes = lent.bytes;
     lent.bytes = bytes - 1;
     tell_all(SHIGTHAPUL_REFUSED_BAD_FIELD, name, ", its file cut short");
     lent.bytes = MOST_BYTES + 1;
@@ -213,9 +193,34 @@ static void tell_refusals(const char *name) {
     lent_bytes[bytes - 1] ^= 0xFF;
     tell_all(SHIGTHAPUL_REFUSED_NOT_UNICODE, name, ", its file not Unicode");
     lent_bytes[bytes - 1] ^= 0xFF;
-    lent.bytes = 0;
-    measure(JSON_FEW, name, ", with no file");
-    lent.bytes = bytes;
+}
+
+/* Whether a row of the tree that is lent has a payload; if so, the first of them gets a place that is no field. */
+static bool misplace(void) {
+    for (uint32_t reference = 1; reference <= lent.root; reference++) {
+        struct shigthapul_row row = shigthapul_row_at(lent_pool, reference);
+        if (row.kind == KIND(IDENTIFIER)) {
+            row.place = MOST_BYTES;
+            shigthapul_put_row(lent_pool, reference, &row);
+            return true;
+        }
+    }
+    return false;
+}
+
+/* The tree that is lent, if it has just been accepted, as it is refused: for its room, its file, its root, its pool,
+   and a payload. */
+static void tell_refusals(const char *name) {
+    const uint32_t no_tree = SHIGTHAPUL_REFUSED_NO_TREE;
+    const size_t words = lent.pool, root = lent.root, room = lent.json;
+    if (!shigthapul_is_accepted(&answer))
+        return;
+    lent.json = shigthapul_count(&answer) - 1;
+    tell_all(SHIGTHAPUL_REFUSED_TOO_SHORT, name, ", with a byte too few");
+    lent.json = 0;
+    tell_all(SHIGTHAPUL_REFUSED_TOO_SHORT, name, ", with no room");
+    lent.json = room;
+    tell_bad_files(name);
     lent.root = 0;
     tell_all(no_tree, name, ", without a root");
     lent.root = root;
@@ -223,12 +228,14 @@ static void tell_refusals(const char *name) {
     tell(JSON_FEW, no_tree, name, ", in an empty pool");
     tell(JSON_SMALL, no_tree, name, ", in an empty pool");
     lent.pool = words;
+    if (misplace())
+        tell_all(no_tree, name, ", a place that is no field");
     break_root();
     tell_all(no_tree, name, ", its root with a next");
 }
 
-/* The trees of a flat form, of three parts, of about as many as a small pool has rows for, and of the greatest length. If
-   they are just as deep they take the same. */
+/* The trees of a flat form, of three parts, of about as many as a small pool has rows for, and of the greatest length.
+   If they are just as deep they take the same. */
 static void flat_texts(const struct flat *flat) {
     char name[80];
     struct taken least = {0, 0, 0};
@@ -246,8 +253,7 @@ static void flat_texts(const struct flat *flat) {
         } else if (depth == deep) {
             are_same(least, taken, name);
         }
-        if (shigthapul_is_accepted(&answer))
-            tell_refusals(name);
+        tell_refusals(name);
     }
 }
 

@@ -1,5 +1,5 @@
-/* Trees for the JSON writer, built row by row: paths of so many rows from a root down, through every slot of every kind;
-   and the token file with their payloads. */
+/* Trees for the JSON writer, built row by row: paths of so many rows from a root down, through every slot of every
+   kind; and the token file with their payloads. */
 #ifndef STACK_PATHS_H
 #define STACK_PATHS_H
 
@@ -161,8 +161,8 @@ static struct {
     bool behind;
 } path;
 
-/* Whether a step may be the next of the path, and the last or not: no row of a path's end is a pair, and only a path's end
-   is a name. */
+/* Whether a step may be the next of the path, the last one or not: a path doesn't end at a pair, and only its end may
+   be a name. */
 static bool may_follow(const struct step *step, enum sort hole, bool last) {
     return step->is == hole && step->holds != (last ? A_PAIR : A_NAME);
 }
@@ -172,10 +172,10 @@ static const struct step *next_step(const struct step *wished, enum sort hole, b
     const struct step *found = NULL;
     if (may_follow(wished, hole, last))
         return wished;
-    for (size_t step = COUNT(STEPS); step > 0; step--) {
-        const struct step *other = &STEPS[step - 1];
-        if (may_follow(other, hole, last) && (found == NULL || other->holds == wished->is || found->holds != wished->is))
-            found = other;
+    for (const struct step *step = STEPS; step < STEPS + COUNT(STEPS); step++) {
+        bool better = found == NULL || (step->holds == wished->is && found->holds != wished->is);
+        if (better && may_follow(step, hole, last))
+            found = step;
     }
     if (found == NULL)
         stop("no step");
@@ -190,7 +190,8 @@ static const struct step *random_step(enum sort hole, bool last) {
     return step;
 }
 
-/* Makes the steps of a path with so many rows: one step as often as may be, or, if there is none, steps at random. */
+/* Makes the steps of a path with so many rows: one step as often as may be, or, if there is none, steps at random. What
+   has to stand innermost. */
 static enum sort make_path(const struct step *wished, enum sort hole, size_t rows) {
     for (path.count = 0; path.count < rows - 1; path.count++) {
         bool last = path.count == rows - 2;

@@ -24,7 +24,7 @@ unfoldable mutual
   each-placed fs nil = true
   each-placed fs (t ▸ ts) = all-placed fs t && each-placed fs ts
 
--- A tree that is written: it fits, and its rows' payloads are fields that a reader let pass.
+-- A tree that is written: it fits, each row's place names a field of the class that its kind needs, and all fields are such as the file reader lets pass.
 pub record Ready (fs : List Field) (t : Tree) : Type 0 where
   pub tree : fits any-root t ≡ true
   pub places : all-placed fs t ≡ true

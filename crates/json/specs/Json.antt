@@ -1,6 +1,6 @@
 -- The JSON text of a tree over the fields of a token file, member by member.
 use Prim.Native.Nat.{ℕ, _+_, _-_}
-use mathlib.Core.Bool.{Bool, true, false, cond}
+use mathlib.Core.Bool.{cond}
 use mathlib.Core.List.{List, [], _∷_, _++_}
 use lib.Dec.{eqb, ltb}
 use lib.ListN.{getD}
@@ -27,6 +27,7 @@ statement-names =
     letters "break" ∷ letters "continue" ∷ letters "var" ∷ letters "const" ∷ letters "return" ∷ letters "throw" ∷ letters "expression" ∷ letters "try"
     ∷ letters "function" ∷ letters "for" ∷ letters "while" ∷ letters "assert" ∷ letters "if" ∷ letters "foreach" ∷ letters "block" ∷ []
 
+-- The name of a kind; empty for a number that is no kind's.
 unfoldable pub name : ℕ → List ℕ
 name k = cond (ltb k 32) (getD expression-names k []) (getD statement-names (k - 32) [])
 

@@ -18,7 +18,7 @@ unfoldable pub hexes : List ℕ → List ℕ
 hexes [] = []
 hexes (b ∷ bs) = hex (b / 16) ∷ hex (b % 16) ∷ hexes bs
 
--- A byte in a JSON string: RFC 8259, section 7, escapes only what it must, and in the short form where it has one.
+-- A byte in a JSON string, escaped only where RFC 8259, section 7, demands it: in the short form where there is one, else by its number.
 unfoldable pub escape : ℕ → List ℕ
 escape b =
     cond (eqb b 0x22) (letters "\\\"")
@@ -31,6 +31,7 @@ escape b =
     (cond (eqb b 0x0D) (letters "\\r")
     (letters "\\u00" ++ (hex (b / 16) ∷ hex (b % 16) ∷ [])))))))))
 
+-- The bytes of a text, each so.
 unfoldable pub escaped : List ℕ → List ℕ
 escaped [] = []
 escaped (b ∷ bs) = escape b ++ escaped bs

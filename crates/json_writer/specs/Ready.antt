@@ -28,10 +28,11 @@ first-members k m p = letters "{\"kind\":" ++ (quoted (name k) ++ (letters ",\"m
 unfoldable pub key : (i : ℕ) → List ℕ
 key i = letters ",\"c" ++ ((48 + i) ∷ letters "\":")
 
--- How many rows the longest path in a tree has, and the longest in trees.
+-- The larger of two numbers.
 unfoldable pub higher : ℕ → ℕ → ℕ
 higher m n = cond (ltb m n) n m
 
+-- How many rows the longest path in a tree has, and the longest in trees.
 unfoldable mutual
   pub tall : Tree → ℕ
   tall (infixed m p l r z) = 1 + higher (tall l) (tall r)

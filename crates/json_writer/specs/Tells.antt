@@ -1,6 +1,5 @@
 -- What writing a tree as JSON answers, and every byte that it leaves.
 use Prim.Native.Nat.{ℕ, _-_, _≤_, _<_}
-use mathlib.Core.Path.{_≡_}
 use mathlib.Core.List.{List, [], _∷_, _++_}
 use lib.ListN.{length, replicate}
 use Rattle.grammar.specs.Tree.{Tree}

@@ -8,7 +8,6 @@ use deep::first_deep;
 use placed::Placed;
 use row::put_row;
 ghost use mathlib.Core.Path.{_≡_};
-ghost use mathlib.Core.List.{List};
 ghost use Prim.Native.Nat.{_<_};
 ghost use lib.ListN.{length, replicate};
 ghost use Rattle.trees.specs.Leaves as part;

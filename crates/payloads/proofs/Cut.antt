@@ -1,10 +1,9 @@
--- The fields of bytes, cut off one by one: a good field in front, and where it and those behind it begin.
+-- The fields of bytes, cut off one by one, and how many places they begin at.
 use mathlib.Core.Path.{_≡_, refl, ap}
 use mathlib.Core.List.{List, [], _∷_, _++_}
 use Prim.Native.Nat.{ℕ, zero, suc, _+_, _*_}
-use lib.ListN.{length, drop}
+use lib.ListN.{length}
 use lib.Seq.{take-append-seam, drop-append-seam}
-use Rattle.files.proofs.Good.{GoodField, behind}
 use Rattle.payloads.specs.Fields.{Field, cut}
 use Rattle.payloads.specs.Index.{begins}
 
@@ -19,16 +18,6 @@ pub one-cut : (bound tag high low : ℕ) (payload rest : List ℕ) → length pa
     → cut (suc bound) (tag ∷ high ∷ low ∷ (payload ++ rest)) ≡ (tag, payload) ∷ cut bound rest
 unfolding cut
 one-cut bound tag high low payload rest e = rw (← e, take-append-seam, drop-append-seam)
-
-module _ {part : List ℕ} {w width : ℕ} (g : GoodField part w width) (bound : ℕ) where
-  -- a good field, and those of the bytes behind it
-  good-cut : cut (suc bound) part ≡ (g .tag, g .payload) ∷ cut bound (drop width part)
-  good-cut = rw (behind g, g .split) (one-cut bound (g .tag) (g .high) (g .low) (g .payload) (g .rest) (g .long))
-
-  -- where they begin
-  pub good-begins : (at : ℕ) → begins at (cut (suc bound) part) ≡ at ∷ begins (at + width) (cut bound (drop width part))
-  unfolding begins
-  good-begins at = rw (good-cut, g .told .takes)
 
 -- fields begin at as many places
 pub length-begins : (at : ℕ) (fs : List Field) → length (begins at fs) ≡ length fs

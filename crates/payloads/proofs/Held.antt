@@ -43,7 +43,7 @@ unfolding before
 before-given room w (read words) k = omega arith
 before-given room w (refused number place) k = k
 
-fields-given : (bound number : ℕ) (bytes : List ℕ) → Given bound (fields bound number bytes)
+pub fields-given : (bound number : ℕ) (bytes : List ℕ) → Given bound (fields bound number bytes)
 unfolding fields
 fields-given zero number bytes = omega arith
 fields-given (suc bound) number [] = omega arith

@@ -15,43 +15,8 @@ use Rattle.payloads.specs.Fields.{Field, NoClass, fields-of, class-at, p
 use Rattle.payloads.specs.Index.{held, begins, laid, start-of, class-by, size-by, payload-by}
 use Rattle.payloads.specs.Claims.{LooksUp}
 use Rattle.payloads.proofs.Cut.{length-begins}
-use Rattle.payloads.proofs.Lined.{Lined, end, then, accepted, fields-counted}
-
--- that a field lies in bytes from a place on
-record Lies (bytes : List ℕ) (start : ℕ) (f : Field) : Type 0 where
-  high : ℕ
-  low : ℕ
-  rest : List ℕ
-  there : drop start bytes ≡ f .0 ∷ high ∷ low ∷ (f .1 ++ rest)
-  long : length (f .1) ≡ high * 256 + low
-
-module _ (bytes : List ℕ) where
-  -- each lies where it begins
-  lies : {part : List ℕ} {fs : List Field} → Lined part fs → (at : ℕ) → drop at bytes ≡ part → (p : ℕ) → p < length fs
-      → Lies bytes (getD (begins at fs) p 0) (getD fs p (NoClass, []))
-  unfolding begins
-  lies end at q p h = absurd (omega arith)
-  lies (then tag high low payload rest fs e a u k) at q zero h = record { high = high; low = low; rest = rest; there = q; long = e }
-  lies (then tag high low payload rest fs e a u k) at q (suc p) h =
-      let whole = tag ∷ high ∷ low ∷ (payload ++ rest) in
-      let behind : drop (head + length payload) whole ≡ rest = sym (drop-drop (length payload) head whole) ∙ drop-append-seam payload rest in
-      lies k (at + (head + length payload)) (sym (drop-drop (head + length payload) at bytes) ∙ ap (drop (head + length payload)) q ∙ behind) p (omega arith)
-
-  module _ {start : ℕ} {f : Field} (l : Lies bytes start f) where
-    -- the byte so far behind its start
-    byte : (i d : ℕ) → getD bytes (start + i) d ≡ getD (f .0 ∷ l .high ∷ l .low ∷ (f .1 ++ l .rest)) i d
-    byte i d = sym (getD-drop start bytes i d) ∙ ap (λ part. getD part i d) (l .there)
-
-    -- its class, its length and its payload
-    its-class : getD bytes start NoClass ≡ f .0
-    its-class = rw add-zero at (byte 0 NoClass)
-
-    its-size : size-by bytes start ≡ length (f .1)
-    unfolding size-by
-    its-size = rw (byte 1 0, byte 2 0) (sym (l .long))
-
-    its-payload : take (size-by bytes start) (drop (start + head) bytes) ≡ f .1
-    its-payload = rw (its-size, ← drop-drop head start bytes, l .there) (take-append-seam (f .1) (l .rest))
+use Rattle.payloads.proofs.Lined.{accepted, fields-counted}
+use Rattle.payloads.proofs.Lies.{Lies, lies, its-class, its-payload}
 
 module _ (bytes words : List ℕ) (place : ℕ) (e : held bytes ≡ read words) where
   abbrev starts : List ℕ

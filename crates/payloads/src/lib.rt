@@ -1,16 +1,12 @@
 // The index of a token file's fields: where each begins, and by its number its class and its payload.
-use fields::Field;
+use files::Fields;
 ghost use mathlib.Core.Path.{_≡_};
-ghost use mathlib.Core.List.{List, _++_};
-ghost use Prim.Native.Nat.{ℕ};
-ghost use lib.ListN.{length, drop, getD, replicate};
-ghost use Rattle.files.specs.File.{read};
+ghost use mathlib.Core.List.{_++_};
+ghost use lib.ListN.{length, drop, getD};
 ghost use Rattle.payloads.specs.Fields.{fields-of};
-ghost use Rattle.payloads.specs.Index.{most-fields, held, answered, begins, laid, start-of, class-by, size-by, payload-by};
+ghost use Rattle.payloads.specs.Index.{most-fields, held, answer, answered, begins, laid, start-of, class-by, size-by, payload-by};
 
-// The most bytes of a file, and the most fields: each has a tag and a length, three bytes.
-const MOST: usize = 60000;
-
+// The most fields of a file: it has at most 60,000 bytes, and a tag and a length take three.
 pub const FIELDS: usize = 20000;
 
 // How many bytes the tag and the length of a field take.
@@ -18,9 +14,6 @@ const HEAD: usize = 3;
 
 // No class.
 pub const NO_CLASS: u8 = 11;
-
-// The refusal of a file with too many bytes.
-const TOO_LONG: u32 = 6;
 
 // What indexing a file answers.
 pub enum Indexed {
@@ -30,55 +23,37 @@ pub enum Indexed {
     Refused(u32, usize),
 }
 
-// Goes over the fields in order, and lays where each begins into the front of the index.
-fn lay(file: &[u8], starts: &mut [u16]) -> Indexed
+// Lays where the fields of an accepted file begin over the front of the index: each behind the payload of the one before it.
+fn lay(file: &[u8], count: usize, starts: &mut [u16])
+    requires { ⌜ answered (held (now file)) ≡ answer 0 count ⌝ }
     requires { ⌜ length (now starts) ≡ most-fields ⌝ }
-    ensures answer { λ r. ⌜ r ≡ answered (held (now (file .entry))) ⌝ }
-    ensures front { λ _. ⌜ ((words : List ℕ) → held (now (file .entry)) ≡ read words
-        → now (starts .exit) ≡ begins 0 (fields-of (now (file .entry))) ++ drop (length words) (now (starts .entry))) ⌝ }
+    ensures { λ _. ⌜ now (starts .exit) ≡ begins 0 (fields-of (now (file .entry))) ++ drop count (now (starts .entry)) ⌝ }
 {
-    if MOST < file.len() {
-        return Indexed::Refused(TOO_LONG, 0);
-    }
     let mut at = 0;
-    let mut count = 0;
-    while at < file.len() {
-        match fields::first_field(&file[at..]) {
-            Field::Refused(number) => return Indexed::Refused(number, count),
-            Field::Good(_, width) => {
-                starts[count] = at as u16;
-                at += width;
-                count += 1;
-            }
-        }
-    }
-    Indexed::Fields(count)
-}
-
-// Clears words.
-fn clear(words: &mut [u16])
-    ensures { λ _. ⌜ now (words .exit) ≡ replicate (length (now (words .entry))) 0 ⌝ }
-{
     let mut i = 0;
-    while i < words.len() {
-        words[i] = 0;
+    while i < count {
+        let start = at as u16;
+        starts[i] = start;
+        at += HEAD + size_at(file, start);
         i += 1;
     }
 }
 
-// Lays the index of a file: where its fields begin in front, zeros behind; all zeros after a refusal.
+// Lays the index of a file: where its fields begin in front, zeros behind; all zeros after a refusal. The reader of token files finds the refusal, and
+// leaves the words of the fields where the index is laid.
 fn fill(file: &[u8], starts: &mut [u16]) -> Indexed
     requires { ⌜ length (now starts) ≡ most-fields ⌝ }
     ensures answer { λ r. ⌜ r ≡ answered (held (now (file .entry))) ⌝ }
     ensures starts { λ _. ⌜ now (starts .exit) ≡ laid (now (file .entry)) (held (now (file .entry))) ⌝ }
 {
-    let answer = lay(file, starts);
-    let from = match answer {
-        Indexed::Fields(count) => count,
-        Indexed::Refused(_, _) => 0,
-    };
-    clear(&mut starts[from..]);
-    answer
+    let fields = files::read(file, starts);
+    match fields {
+        Fields::Refused(number, place) => Indexed::Refused(number, place),
+        Fields::Count(count) => {
+            lay(file, count, starts);
+            Indexed::Fields(count)
+        }
+    }
 }
 
 // The index of a file, in as many words as a file can have fields.

@@ -24,7 +24,7 @@ module _ (pool : List ℕ) where
       eqb (needs (word-of pool r 0)) 0 || eqb (class-by bytes starts count (word-of pool r 2)) (needs (word-of pool r 0))
 
   module _ (words bytes starts : List ℕ) (count : ℕ) where
-    -- A row with a link whose place isn't.
+    -- A row with a link whose place isn't such a number.
     pub record Misplaced (r : ℕ) : Type 0 where
       pub inside : In pool r
       pub linked : getD words r 0 ≡ 0 → ⊥

@@ -12,7 +12,7 @@ ghost use Rattle.trees.specs.Leaves.{few-rows, front};
 ghost use Rattle.placed.specs.Steps.{placed-by, FirstMisplaced, lower, Answers};
 ghost use Rattle.placed.specs.Left.{Left};
 
-// The classes of the fields with a payload to show; no class for a kind without a payload.
+// The classes of the fields with a payload to show; 0 for a kind without a payload.
 const NO_PAYLOAD: u8 = 0;
 
 const INTEGER: u8 = 3;

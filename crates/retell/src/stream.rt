@@ -19,7 +19,7 @@ pub const VALUE: usize = 5;
 
 pub const PART: usize = 7;
 
-// How many bytes a head has. Its last number is for other programs.
+// How many bytes a head has. Its last number is 0.
 pub const HEAD: usize = 28;
 
 // The byte at a place; 0 behind the last.

@@ -1,4 +1,4 @@
-// Reads a token file on standard input as a whole script, and prints its tree as JSON, or the line of a refusal.
+// Reads a token file on standard input as a whole script by the original's rules, and prints its tree as JSON, or the line of a refusal.
 use answer::Answer;
 use files::Fields;
 use json_writer::Told;
