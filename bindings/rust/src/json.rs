@@ -4,7 +4,7 @@
 //!
 //! A `str` must be well-formed UTF-8. It is proved of the library (`docs/CLAIMS.md`) that where it accepts,
 //! the text of the tree, as it is defined, stands in front of the buffer, as long as the answer says
-//! (`Tells`), and that each such text is well-formed UTF-8 (`WellFormed`).
+//! (`Tells`), and that it is well-formed UTF-8 (`WritesJson`).
 //!
 //! What is left to see to here is that the bytes are those: the `str` is made right behind the call, of
 //! so many bytes, and borrows the buffer.
@@ -69,7 +69,7 @@ pub fn json<'a>(
     text: &'a mut [u8],
 ) -> Result<&'a str, Refusal> {
     let length = counted(|answer| raw::json(pool, root as usize, file, text, answer))?;
-    // SAFETY: by `WellFormed`; see the head of this module.
+    // SAFETY: by `WritesJson`; see the head of this module.
     Ok(unsafe { from_utf8_unchecked(&text[..length]) })
 }
 
@@ -82,7 +82,7 @@ pub fn json_small<'a>(
     text: &'a mut [u8],
 ) -> Result<&'a str, Refusal> {
     let length = counted(|answer| raw::json_small(pool, root as usize, file, text, answer))?;
-    // SAFETY: by `WellFormed`; see the head of this module.
+    // SAFETY: by `WritesJson`; see the head of this module.
     Ok(unsafe { from_utf8_unchecked(&text[..length]) })
 }
 

@@ -197,7 +197,8 @@ impl<'a> Tree<'a> {
     }
 
     /// The tree as a JSON text, as [`json`](crate::json()) writes it, with the payloads of the token file
-    /// that it was read from. A tree with no root is refused.
+    /// that it was read from. A tree with no root is refused. Where rows share a long field the text can be
+    /// far longer than the file: for a tree that others have made lend a buffer to `json` instead.
     ///
     /// ```
     /// use shigthapul::{one_expression, Mode, TokenFile, ROW_WORDS};
