@@ -1,4 +1,6 @@
 // What readers and entries answer, and what an entry does before and after reading.
+#![tactic(auto)]
+
 ghost use Rattle.std.specs.Prelude.{◌≡◌, ℕ, ltb, length};
 ghost use Rattle.grammar.specs.Parsed.{Check, need, BadStart};
 ghost use Rattle.grammar.specs.Script.{both, array_good};
@@ -14,6 +16,7 @@ const BAD_START: u32 = 4;
 // How many rows of its part a reader has filled, the reference of what it read (of a list its first, 0 for none) and the next cursor;
 // or a refusal, by its number and place.
 #[derive(Drop)]
+#[derive(Clone, Copy)]
 pub enum Read {
     Tree(usize, u32, Cursor),
     Refused(u32, usize),
@@ -21,6 +24,7 @@ pub enum Read {
 
 // What an entry answers: the root's reference, the rows used and the current place; or a refusal, by its number and place.
 #[derive(Drop)]
+#[derive(Clone, Copy)]
 pub enum Answer {
     Accepted(u32, usize, usize),
     Refused(u32, usize),
@@ -28,6 +32,7 @@ pub enum Answer {
 
 // Where reading starts; or the refusal of an array or a start place.
 #[derive(Drop)]
+#[derive(Clone, Copy)]
 pub enum Start {
     At(Cursor),
     Refused(u32, usize),

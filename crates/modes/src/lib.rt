@@ -1,4 +1,6 @@
 // The mode of reading, the signs that it asks for, and how deep any mode reads.
+#![tactic(auto)]
+
 ghost use Rattle.std.specs.Prelude.{◌≡◌};
 ghost use Rattle.grammar.specs.Script.{nesting};
 ghost use Rattle.tokens.specs.Tokens.{word};
@@ -11,6 +13,7 @@ use words::Cursor;
 // The original's rules; or strict ones, by which a call with arguments must be closed, and the bodies of while, foreach and
 // finally opened, by the right sign.
 #[derive(Drop)]
+#[derive(Clone, Copy)]
 pub enum Mode {
     Old,
     Strict,
@@ -18,6 +21,7 @@ pub enum Mode {
 
 // When a sign must come next: always, or by the mode.
 #[derive(Drop)]
+#[derive(Clone, Copy)]
 pub enum Due {
     Always,
     By(Mode),

@@ -1,4 +1,6 @@
 // The orders and the marks of operators, and whether an expression goes on.
+#![tactic(auto)]
+
 ghost use Rattle.std.specs.Prelude.{◌≡◌, ◌||◌, ◌-◌, eqb, ltb};
 ghost use Rattle.grammar.specs.Words.{SIncr, SDecr, SLParen, SLBox, order, infix_of, goes_on};
 ghost use Rattle.tokens.specs.Tokens.{word};
@@ -6,6 +8,7 @@ ghost use Rattle.tokens.specs.Tokens.{word};
 use tokens::{Symbol, Token};
 
 // The order of a token, 0 for the lowest: get_eval_order.
+#[tactic(auto, unfolding(grammar::specs::Words::order, grammar::specs::Words::by_code, grammar::specs::Words::class, grammar::specs::Words::code, grammar::specs::Words::orders))]
 pub fn order_of(t: Token) -> usize
     ensures { result ≡ order (word t) }
 {
@@ -42,6 +45,7 @@ pub fn order_of(t: Token) -> usize
 const INFIXES: u64 = 0x3_9EF3_A79E;
 
 // Whether a token is one of the 23 infix operators: has_infix.
+#[tactic(auto, unfolding(grammar::specs::Words::infix_of, grammar::specs::Words::by_code, grammar::specs::Words::class, grammar::specs::Words::code))]
 pub fn is_infix(t: Token) -> bool
     ensures { result ≡ ltb 0 (infix_of (word t)) }
 {
@@ -52,6 +56,7 @@ pub fn is_infix(t: Token) -> bool
 }
 
 // The mark of an infix operator, 0 for any other token: parse_infix_expression.
+#[tactic(auto, unfolding(grammar::specs::Words::infix_of, grammar::specs::Words::by_code, grammar::specs::Words::class, grammar::specs::Words::code, grammar::specs::Words::infixes))]
 pub fn infix_mark(t: Token) -> u32
     ensures { result ≡ infix_of (word t) - 1 }
 {

@@ -20,7 +20,7 @@ below p zero = true
 below p (suc n) = p n && below p n
 
 -- Whether a list has a number.
-abbrev has : List ℕ → ℕ → Bool
+abbrev pub has : List ℕ → ℕ → Bool
 has [] x = false
 has (k ∷ ks) x = eqb k x || has ks x
 

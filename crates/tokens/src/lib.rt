@@ -1,4 +1,6 @@
 // The tokens of a script, and what they carry.
+#![tactic(auto)]
+
 mod codes;
 mod word;
 
@@ -7,6 +9,7 @@ pub use word::{class_of, code_of, is_valid, token_of, word_of};
 
 // The symbol that an operator carries, in the order of the codes: SymbolKind.
 #[derive(Drop)]
+#[derive(Clone, Copy)]
 pub enum Symbol {
     SInvalid,
     SPlus,
@@ -53,6 +56,7 @@ pub enum Symbol {
 
 // The symbol that a keyword carries, in the order of the codes: KeywordKind.
 #[derive(Drop)]
+#[derive(Clone, Copy)]
 pub enum Keyword {
     KInvalid,
     KIf,
@@ -86,6 +90,7 @@ pub enum Keyword {
 
 // A token, one of the eleven classes: TokenKind.
 #[derive(Drop)]
+#[derive(Clone, Copy)]
 pub enum Token {
     Invalid,
     Empty,

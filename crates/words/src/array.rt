@@ -8,6 +8,7 @@ use tokens::is_valid;
 
 // Whether an array is good, or the place where it is not.
 #[derive(Drop)]
+#[derive(Clone, Copy)]
 pub enum Checked {
     Good,
     Bad(usize),

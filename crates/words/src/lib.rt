@@ -1,4 +1,6 @@
 // The cursor over an array of token words, and the check of an array.
+#![tactic(auto)]
+
 mod array;
 mod places;
 
