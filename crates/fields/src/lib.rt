@@ -1,4 +1,6 @@
 // One field of a token file: its token word, and how many bytes it takes.
+#![tactic(auto)]
+
 ghost use Rattle.std.specs.Prelude.{◌≡◌, true, cond, eqb, ◌+◌, ◌*◌, length};
 ghost use Rattle.grammar.specs.Words.{Char, class};
 ghost use Rattle.fields.specs.Field.{head, BadField, coded, text, number, whole, first};
@@ -45,6 +47,7 @@ const NOT_UNICODE: u32 = 33;
 
 // The first field of a part of a file.
 #[derive(Drop)]
+#[derive(Clone, Copy)]
 pub enum Field {
     // A good field: its word, and how many bytes it takes.
     Good(u16, usize),

@@ -1,4 +1,6 @@
 // Token files: the fields of a file are read into a lent buffer of token words.
+#![tactic(auto)]
+
 ghost use Rattle.std.specs.Prelude.{◌≡◌, List, ◌++◌, ℕ, length, drop};
 ghost use Rattle.files.specs.File.{read};
 ghost use Rattle.files.specs.Entry.{content, file_answer, file_buffer};
@@ -16,6 +18,7 @@ const TOO_LONG: u32 = 6;
 
 // What reading a file answers.
 #[derive(Drop)]
+#[derive(Clone, Copy)]
 pub enum Fields {
     // How many fields it has.
     Count(usize),

@@ -1,4 +1,6 @@
 // The rows of a pool, whose layout nothing else knows: a row is built behind those that are there, linked, marked and read.
+#![tactic(auto)]
+
 ghost use Rattle.std.specs.Prelude.{◌≡◌, ◌++◌, ◌*◌, ◌^◌, ◌≤◌, ◌<◌, length, drop, replicate};
 ghost use Rattle.grammar.specs.Tree.{width, flag};
 ghost use Rattle.grammar.specs.Script.{rows, seat};
@@ -24,6 +26,7 @@ const NO_ROW: u32 = 3;
 
 // A row to build: its words but the one that says that no row is next.
 #[derive(Drop)]
+#[derive(Clone, Copy)]
 pub struct Row {
     pub kind: u32,
     pub mark: u32,
@@ -37,6 +40,7 @@ pub struct Row {
 
 // How many rows are there now; or a refusal, by its number and place.
 #[derive(Drop)]
+#[derive(Clone, Copy)]
 pub enum Built {
     Rows(usize),
     Refused(u32, usize),
@@ -44,6 +48,7 @@ pub enum Built {
 
 // What a mark can say besides its number: a call on a thread, one not waited for, a row in brackets.
 #[derive(Drop)]
+#[derive(Clone, Copy)]
 pub enum Flag {
     Thread,
     Async,

@@ -1,4 +1,6 @@
 // The text of a string's payload: folding its pairs of backslashes, and handing back what to read.
+#![tactic(auto)]
+
 ghost use Rattle.std.specs.Prelude.{◌≡◌, ◌≤◌, length, drop};
 ghost use Rattle.text.specs.Fold.{folded, width_of, written};
 ghost use Rattle.text.specs.Entries.{fold_answer, fold_buffer, text_of};
@@ -10,6 +12,7 @@ const NO_ROOM: u32 = 3;
 
 // What folding answers.
 #[derive(Drop)]
+#[derive(Clone, Copy)]
 pub enum Folded {
     // The length of the text.
     Length(usize),

@@ -1,4 +1,6 @@
 // Unicode: which numbers are scalar values, and which bytes are well-formed UTF-8.
+#![tactic(auto)]
+
 ghost use Rattle.std.specs.Prelude.{◌≡◌, [], ◌∷◌, cond, ◌≤◌, ◌<◌, drop};
 ghost use Rattle.unicode_text.specs.Unicode.{scalar, ◌to◌, tail, begins, first, table, well_formed};
 
