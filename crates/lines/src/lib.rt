@@ -1,4 +1,6 @@
 // What `outline` prints: numbers in decimal, the first line of an answer and the line of a row, each written to a lent buffer.
+#![tactic(auto)]
+
 ghost use Rattle.std.specs.Prelude.{◌≡◌, ◌++◌, ◌+◌, ◌*◌, ◌≤◌, length, drop};
 ghost use Rattle.std.proofs.Math.Seq.{paste as pasted};
 ghost use Rattle.grammar.specs.Tree.{width};

@@ -23,4 +23,4 @@ one_cut bound tag high low payload rest e = rw (← e, take-append_seam, drop-ap
 pub length_begins : (at : ℕ) (fs : List Field) → length (begins at fs) ≡ length fs
 unfolding begins
 length_begins at [] = refl
-length_begins at (f ∷ fs) = ap suc (length_begins _ fs)
+length_begins at (f ∷ fs) = ap suc (length_begins (at + (3 + length f.1)) fs)

@@ -1,17 +1,17 @@
 -- Going over the heads of an accepted file's fields: what is laid of the index, and what is left of the fields.
-use mathlib.Core.Path.{◌≡◌, refl, sym, ap, ◌∙◌}
+use mathlib.Core.Path.{◌≡◌, refl, ap, ◌∙◌}
 use mathlib.Core.List.{List, [], ◌∷◌, ◌++◌, append-nil}
-use Prim.Native.Nat.{ℕ, zero, suc, ◌+◌, ◌-◌, ◌≤◌, ◌<◌}
+use Prim.Native.Nat.{ℕ, ◌+◌, ◌-◌, ◌≤◌, ◌<◌}
 use native.Mathlib.Numerals.{add-one}
 use native.Mathlib.Omega.{arith}
 use lib.ListN.{length, drop, set, length-set, length-append, length-drop}
 use lib.Seq.{drop-cons, append_snoc, set_at}
 use Rattle.fields.specs.Field.{head}
-use Rattle.files.specs.File.{read, most}
+use Rattle.files.specs.File.{most}
 use Rattle.payloads.specs.Fields.{Field, fields_of}
 use Rattle.payloads.specs.Index.{held, answer, answered, begins, size_by, most_fields}
 use Rattle.payloads.proofs.Held.{counted}
-use Rattle.payloads.proofs.Lined.{Lined, end, then, lined_thirds, accepted, fields_counted, fields_few}
+use Rattle.payloads.proofs.Lined.{Lined, end, then, accepted, fields_counted, fields_few}
 use Rattle.payloads.proofs.Lies.{Lies, behind, its_size}
 
 -- the way stands at a byte, with i fields behind it; where they begin stands at the front of the index

@@ -1,18 +1,15 @@
 -- What is looked up by the index of a file is the class and the payload of the field with that number.
-use mathlib.Core.Path.{◌≡◌, refl, sym, ap, ◌∙◌}
+use mathlib.Core.Path.{◌≡◌, refl, sym, ap}
 use mathlib.Core.Bool.{Bool, true, false}
-use mathlib.Core.List.{List, [], ◌∷◌, ◌++◌}
-use Prim.Native.Nat.{ℕ, zero, suc, ◌+◌, ◌*◌, ◌≤◌, ◌<◌}
-use native.Mathlib.Nat.{add-zero}
+use mathlib.Core.List.{List, []}
+use Prim.Native.Nat.{ℕ, ◌≤◌, ◌<◌}
 use native.Mathlib.Omega.{arith}
 use borrow.Author.Tests.{ltb-true, ltb-false}
 use lib.Dec.{ltb}
-use lib.ListN.{length, take, drop, get_or, get_or-append, get_or-eq_default}
-use lib.Seq.{get_or-drop, drop-drop, drop-append_seam, take-append_seam}
-use Rattle.fields.specs.Field.{head}
+use lib.ListN.{length, get_or, get_or-append, get_or-eq_default}
 use Rattle.files.specs.File.{read}
 use Rattle.payloads.specs.Fields.{Field, NoClass, fields_of, class_at, payload_at}
-use Rattle.payloads.specs.Index.{held, begins, laid, start_of, class_by, size_by, payload_by}
+use Rattle.payloads.specs.Index.{held, begins, laid, start_of, class_by, payload_by}
 use Rattle.payloads.specs.Claims.{LooksUp}
 use Rattle.payloads.proofs.Cut.{length_begins}
 use Rattle.payloads.proofs.Lined.{accepted, fields_counted}

@@ -1,4 +1,6 @@
 // The index of a token file's fields: where each begins, and by its number its class and its payload.
+#![tactic(auto)]
+
 ghost use Rattle.std.specs.Prelude.{◌≡◌, ◌++◌, length, drop, get_or};
 ghost use Rattle.payloads.specs.Fields.{fields_of};
 ghost use Rattle.payloads.specs.Index.{most_fields, held, answer, answered, begins, laid, start_of, class_by, size_by, payload_by};
@@ -16,6 +18,7 @@ pub const NO_CLASS: u8 = 11;
 
 // What indexing a file answers.
 #[derive(Drop)]
+#[derive(Clone, Copy)]
 pub enum Indexed {
     // How many fields it has.
     Fields(usize),

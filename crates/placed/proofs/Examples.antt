@@ -1,18 +1,17 @@
 -- Pools of one row over a file of two fields, the identifier ab and then EOF, worked out by computing the definitions.
-use Prim.Native.Nat.{ℕ, ◌≤◌}
+use Prim.Native.Nat.{ℕ}
 use native.Mathlib.Omega.{arith}
 use mathlib.Core.Path.{◌≡◌, refl, sym, ◌∙◌}
 use mathlib.Core.Bool.{true, false}
-use mathlib.Core.List.{List, [], ◌∷◌, ◌++◌}
-use lib.ListN.{length}
-use Rattle.grammar.specs.Tree.{Tree, node, nil, row, head_ref, size, sizes, lay, lays}
-use Rattle.grammar.specs.Script.{rows, word_of}
-use Rattle.slots.specs.Slots.{any-root, slot, kind_of, of_expressions, of_statements, is_expression, marked, takes, counts, how_many, fits, all_fit}
+use mathlib.Core.List.{List, [], ◌∷◌}
+use Rattle.grammar.specs.Tree.{Tree, node, nil, lay, lays}
+use Rattle.grammar.specs.Script.{rows}
+use Rattle.slots.specs.Slots.{slot, kind_of, of_expressions, of_statements, is_expression, marked, takes, counts, fits, all_fit}
 use Rattle.slots.proofs.Either.{no_both}
 use Rattle.payloads.specs.Fields.{cut, fields_of, class_at}
 use Rattle.payloads.specs.Needs.{needs, placed}
 use Rattle.payloads.proofs.Examples.{two, two_held, bad, bad_held}
-use Rattle.trees.specs.Pool.{In, Reached, start}
+use Rattle.trees.specs.Pool.{In, start}
 use Rattle.trees.specs.Exact.{IsTree}
 use Rattle.trees.proofs.Links.{reached_in}
 use Rattle.trees.proofs.Exact.{none_bad}

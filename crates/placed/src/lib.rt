@@ -1,4 +1,6 @@
 // The check that the rows which a root reaches in a pool are a tree whose payloads are fields of a file.
+#![tactic(auto)]
+
 ghost use Rattle.std.specs.Prelude.{◌≡◌, suc, ◌<◌, length};
 ghost use Rattle.grammar.specs.Script.{most_rows};
 ghost use Rattle.payloads.specs.Needs.{needs};
@@ -32,6 +34,7 @@ const NO_TREE: u32 = 38;
 
 // What the check answers.
 #[derive(Drop)]
+#[derive(Clone, Copy)]
 pub enum Placed {
     // The rows are a tree over so many fields.
     Fields(usize),

@@ -1,4 +1,6 @@
 // The table of the kinds: how many marks each has, and what each of its four slots takes.
+#![tactic(auto)]
+
 ghost use Rattle.std.specs.Prelude.{◌≡◌, ◌^◌, ◌<◌};
 ghost use Rattle.slots.specs.Slots.{slot, kind_of, is_expression, marked, takes};
 ghost use Rattle.slots.specs.Codes.{code, packed, kinds_of, slot_of};

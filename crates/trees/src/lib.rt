@@ -1,4 +1,6 @@
 // The check that the rows which a root reaches in a pool are a tree.
+#![tactic(auto)]
+
 mod bad;
 mod clear;
 mod reach;
@@ -24,6 +26,7 @@ pub const LARGE: usize = 65536;
 
 // What the check of a tree answers.
 #[derive(Drop)]
+#[derive(Clone, Copy)]
 pub enum Checked {
     // The rows are a tree.
     Tree,
