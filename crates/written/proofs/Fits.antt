@@ -279,7 +279,7 @@ infix_ok m p l r n h x y = record { fit = infix_fits expressions m p l r n refl 
 abbrev Reads : Takes → Reader Tree → Type 0
 Reads s f = (at room : ℕ) → Gives (TreeOk s) (f at room)
 
-match_reads : {arms : List (Arm Tree)} (s : Takes) (w : ℕ) (other : Reader Tree) → Arms (Reads s) arms → Reads s other → Reads s (match w arms other)
+match_reads : (s : Takes) {arms : List (Arm Tree)} (w : ℕ) (other : Reader Tree) → Arms (Reads s) arms → Reads s other → Reads s (match w arms other)
 unfolding match
 match_reads s w other end h at room = h at room
 match_reads s w other (r ▹ rs) h at room = gives_choose _ _ _ _ (λ q. r at room) (λ q. match_reads s w other rs h at room)

@@ -44,7 +44,7 @@ row_behind {d} k m p at room t y e f a b = gives_build (LowAt (suc d)) (node k m
 abbrev Reads : ℕ → Reader Tree → Type 0
 Reads n f = (at room : ℕ) → Gives (LowAt n) (f at room)
 
-match_reads : {arms : List (Arm Tree)} (n w : ℕ) (other : Reader Tree) → Arms (Reads n) arms → Reads n other → Reads n (match w arms other)
+match_reads : (n : ℕ) {arms : List (Arm Tree)} (w : ℕ) (other : Reader Tree) → Arms (Reads n) arms → Reads n other → Reads n (match w arms other)
 unfolding match
 match_reads n w other end h at room = h at room
 match_reads n w other (r ▹ rs) h at room = gives_choose _ _ _ _ (λ q. r at room) (λ q. match_reads n w other rs h at room)
