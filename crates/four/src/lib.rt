@@ -1,4 +1,6 @@
 // An answer as four words at the front of a slice.
+#![tactic(auto)]
+
 ghost use Rattle.std.specs.Prelude.{◌≡◌, [], ◌∷◌};
 ghost use Rattle.answer.specs.Answer.{numbers};
 ghost use Rattle.four.specs.Answers.{over, file_words, fold_words, text_words};

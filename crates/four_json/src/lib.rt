@@ -1,4 +1,6 @@
 // What writing a tree as JSON answers, as four words at the front of a slice.
+#![tactic(auto)]
+
 ghost use Rattle.std.specs.Prelude.{◌≡◌};
 ghost use Rattle.four.specs.Answers.{over};
 ghost use Rattle.json_writer.specs.Tells.{numbers};

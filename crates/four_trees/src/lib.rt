@@ -1,4 +1,6 @@
 // What the check and the writer answer, as four words at the front of a slice.
+#![tactic(auto)]
+
 ghost use Rattle.std.specs.Prelude.{◌≡◌};
 ghost use Rattle.four.specs.Answers.{over};
 ghost use Rattle.trees.specs.Verdict as verdict;

@@ -1,4 +1,6 @@
 // The writer: a tree of a pool as token words, and the places of their payloads.
+#![tactic(auto)]
+
 mod forms;
 mod moves;
 mod pieces;
@@ -17,6 +19,7 @@ const TOO_SHORT: u32 = 32;
 
 // What the writer answers: how many tokens there are, EOF included; or a refusal, by its number and place.
 #[derive(Drop)]
+#[derive(Clone, Copy)]
 pub enum Wrote {
     Tokens(usize),
     Refused(u32, usize),

@@ -17,6 +17,7 @@ const UPWARD: usize = 9;
 
 // A step: a token that is written with a place, or none; and the row and the piece that come then. With row 0 all is written.
 #[derive(Drop)]
+#[derive(Clone, Copy)]
 pub enum Move {
     Put(Token, u32, usize, usize),
     Go(usize, usize),

@@ -17,6 +17,7 @@ const CHILD: usize = 3;
 
 // What a piece does: a token is written with a place, nothing is written, or a word of the row leads to a slot.
 #[derive(Drop)]
+#[derive(Clone, Copy)]
 pub enum Act {
     Put(Token, u32),
     Skip,

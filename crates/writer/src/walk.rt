@@ -11,6 +11,7 @@ const STEPS: u32 = 10;
 
 // Where the writer is: a row, the next of its pieces, and how many tokens there are so far. With row 0 all is written.
 #[derive(Drop)]
+#[derive(Clone, Copy)]
 pub struct At {
     pub row: usize,
     pub piece: usize,

@@ -1,0 +1,11 @@
+-- `where_some` meets its contract: by whether the number is 0.
+use borrow.Author.Tests.{eq-eqb, ne_eqb}
+use Rattle.writer.specs.Codes as codes
+use Rattle.writer.specs.Walk as w
+use Rattle.writer.proofs.pieces.where_some.Goals as goal
+
+pub returns-then-x-eq0 : goal.returns-then-x-eq0
+returns-then-x-eq0 c = rw (eq-eqb _ _ c.if-x-eq0.true)
+
+pub returns-else-x-eq0 : goal.returns-else-x-eq0
+returns-else-x-eq0 c = rw (ne_eqb _ _ c.if-x-eq0.false)
