@@ -1,4 +1,6 @@
 // The reader of scripts over an array of token words: its three entries.
+#![tactic(auto)]
+
 ghost use Rattle.std.specs.Prelude.{length};
 ghost use Rattle.grammar.specs.Script as spec;
 ghost use Rattle.modes.specs.Modes.{by};

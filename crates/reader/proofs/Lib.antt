@@ -6,9 +6,13 @@ mod Roots
 mod Loops
 mod Moves
 mod Matches
+mod Definitions
+mod Others
 mod Bodies
 mod Shared
 mod Ends
 mod Lists
+mod Rests
+mod Readings
 pub mod Wholes
 mod Determined

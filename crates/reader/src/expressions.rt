@@ -23,7 +23,7 @@ use tokens::{Keyword, Symbol, Token};
 use words::Cursor;
 
 // parse_expression, where `allow` more expressions and statements may be open.
-#[cycle(actual_around_array_at_keyword_at_symbol_behind_call_climb_enclosed_entries_expression_hash_index_infix_exp_item_lambda_list_operation_pair_prefix_prefix_part_shell_started_sub_exp)]
+#[cycle(expressions)]
 pub fn expression(
     tokens: &[u16],
     pool: &mut [u32],
@@ -52,7 +52,7 @@ pub fn expression(
 }
 
 // The match at the head of parse_expression.
-#[cycle(actual_around_array_at_keyword_at_symbol_behind_call_climb_enclosed_entries_expression_hash_index_infix_exp_item_lambda_list_operation_pair_prefix_prefix_part_shell_started_sub_exp)]
+#[cycle(expressions)]
 fn prefix_part(
     tokens: &[u16],
     pool: &mut [u32],
@@ -78,7 +78,7 @@ fn prefix_part(
 }
 
 // The expressions that begin with a keyword.
-#[cycle(actual_around_array_at_keyword_at_symbol_behind_call_climb_enclosed_entries_expression_hash_index_infix_exp_item_lambda_list_operation_pair_prefix_prefix_part_shell_started_sub_exp)]
+#[cycle(expressions)]
 fn at_keyword(
     tokens: &[u16],
     pool: &mut [u32],
@@ -103,7 +103,7 @@ fn at_keyword(
 }
 
 // The expressions that begin with an operator.
-#[cycle(actual_around_array_at_keyword_at_symbol_behind_call_climb_enclosed_entries_expression_hash_index_infix_exp_item_lambda_list_operation_pair_prefix_prefix_part_shell_started_sub_exp)]
+#[cycle(expressions)]
 fn at_symbol(
     tokens: &[u16],
     pool: &mut [u32],
@@ -130,7 +130,7 @@ fn at_symbol(
 }
 
 // A row of one child, the expression that begins at the cursor.
-#[cycle(actual_around_array_at_keyword_at_symbol_behind_call_climb_enclosed_entries_expression_hash_index_infix_exp_item_lambda_list_operation_pair_prefix_prefix_part_shell_started_sub_exp)]
+#[cycle(expressions)]
 pub fn around(
     tokens: &[u16],
     pool: &mut [u32],
@@ -153,7 +153,7 @@ pub fn around(
 }
 
 // parse_prefix_expression, by the mark of its operator.
-#[cycle(actual_around_array_at_keyword_at_symbol_behind_call_climb_enclosed_entries_expression_hash_index_infix_exp_item_lambda_list_operation_pair_prefix_prefix_part_shell_started_sub_exp)]
+#[cycle(expressions)]
 fn prefix(
     tokens: &[u16],
     pool: &mut [u32],
@@ -171,7 +171,7 @@ fn prefix(
 }
 
 // parse_shell_expression
-#[cycle(actual_around_array_at_keyword_at_symbol_behind_call_climb_enclosed_entries_expression_hash_index_infix_exp_item_lambda_list_operation_pair_prefix_prefix_part_shell_started_sub_exp)]
+#[cycle(expressions)]
 fn shell(tokens: &[u16], pool: &mut [u32], first: usize, c: Cursor, mode: Mode, less: usize) -> Read
     requires { Ready tokens.now pool.old first c }
     ensures { Fresh one (spec.shell (by mode) tokens.now (spec.expression (by mode) tokens.now less)) tokens.now c first result pool.old pool.new }
@@ -185,7 +185,7 @@ fn shell(tokens: &[u16], pool: &mut [u32], first: usize, c: Cursor, mode: Mode, 
 }
 
 // An expression, or a pair of a hash.
-#[cycle(actual_around_array_at_keyword_at_symbol_behind_call_climb_enclosed_entries_expression_hash_index_infix_exp_item_lambda_list_operation_pair_prefix_prefix_part_shell_started_sub_exp)]
+#[cycle(expressions)]
 fn item(
     tokens: &[u16],
     pool: &mut [u32],
@@ -206,7 +206,7 @@ fn item(
 }
 
 // An item behind the first `rows` rows of the part.
-#[cycle(actual_around_array_at_keyword_at_symbol_behind_call_climb_enclosed_entries_expression_hash_index_infix_exp_item_lambda_list_operation_pair_prefix_prefix_part_shell_started_sub_exp)]
+#[cycle(expressions)]
 pub fn behind(
     tokens: &[u16],
     pool: &mut [u32],
@@ -239,7 +239,7 @@ pub fn behind(
 }
 
 // The entries of a list behind the first: the loops of parse_list_expr and parse_hash_literal.
-#[cycle(actual_around_array_at_keyword_at_symbol_behind_call_climb_enclosed_entries_expression_hash_index_infix_exp_item_lambda_list_operation_pair_prefix_prefix_part_shell_started_sub_exp)]
+#[cycle(expressions)]
 fn entries(
     tokens: &[u16],
     pool: &mut [u32],
@@ -272,7 +272,7 @@ fn entries(
 }
 
 // parse_list_expr; or the pairs of a hash, behind its sign.
-#[cycle(actual_around_array_at_keyword_at_symbol_behind_call_climb_enclosed_entries_expression_hash_index_infix_exp_item_lambda_list_operation_pair_prefix_prefix_part_shell_started_sub_exp)]
+#[cycle(expressions)]
 fn list(
     tokens: &[u16],
     pool: &mut [u32],
@@ -297,7 +297,7 @@ fn list(
 }
 
 // A list and its closing sign, which comes next where it is due, or else the refusal `number`.
-#[cycle(actual_around_array_at_keyword_at_symbol_behind_call_climb_enclosed_entries_expression_hash_index_infix_exp_item_lambda_list_operation_pair_prefix_prefix_part_shell_started_sub_exp)]
+#[cycle(expressions)]
 pub fn enclosed(
     tokens: &[u16],
     pool: &mut [u32],
@@ -325,7 +325,7 @@ pub fn enclosed(
 }
 
 // parse_pair
-#[cycle(actual_around_array_at_keyword_at_symbol_behind_call_climb_enclosed_entries_expression_hash_index_infix_exp_item_lambda_list_operation_pair_prefix_prefix_part_shell_started_sub_exp)]
+#[cycle(expressions)]
 fn pair(tokens: &[u16], pool: &mut [u32], first: usize, c: Cursor, mode: Mode, less: usize) -> Read
     requires { Ready tokens.now pool.old first c }
     ensures { Fresh one (spec.pair (by mode) tokens.now (spec.expression (by mode) tokens.now less)) tokens.now c first result pool.old pool.new }
@@ -347,7 +347,7 @@ fn pair(tokens: &[u16], pool: &mut [u32], first: usize, c: Cursor, mode: Mode, l
 }
 
 // parse_hash_literal
-#[cycle(actual_around_array_at_keyword_at_symbol_behind_call_climb_enclosed_entries_expression_hash_index_infix_exp_item_lambda_list_operation_pair_prefix_prefix_part_shell_started_sub_exp)]
+#[cycle(expressions)]
 fn hash(tokens: &[u16], pool: &mut [u32], first: usize, c: Cursor, mode: Mode, less: usize) -> Read
     requires { Ready tokens.now pool.old first c }
     ensures { Fresh one (spec.hash_literal (by mode) tokens.now (spec.expression (by mode) tokens.now less)) tokens.now c first result pool.old pool.new }
@@ -375,7 +375,7 @@ fn hash(tokens: &[u16], pool: &mut [u32], first: usize, c: Cursor, mode: Mode, l
 }
 
 // parse_array_expression
-#[cycle(actual_around_array_at_keyword_at_symbol_behind_call_climb_enclosed_entries_expression_hash_index_infix_exp_item_lambda_list_operation_pair_prefix_prefix_part_shell_started_sub_exp)]
+#[cycle(expressions)]
 fn array(tokens: &[u16], pool: &mut [u32], first: usize, c: Cursor, mode: Mode, less: usize) -> Read
     requires { Ready tokens.now pool.old first c }
     ensures { Fresh one (spec.array (by mode) tokens.now (spec.expression (by mode) tokens.now less)) tokens.now c first result pool.old pool.new }
@@ -414,7 +414,7 @@ fn array(tokens: &[u16], pool: &mut [u32], first: usize, c: Cursor, mode: Mode, 
 }
 
 // parse_lambda_exp
-#[cycle(actual_around_array_at_keyword_at_symbol_behind_call_climb_enclosed_entries_expression_hash_index_infix_exp_item_lambda_list_operation_pair_prefix_prefix_part_shell_started_sub_exp)]
+#[cycle(expressions)]
 fn lambda(
     tokens: &[u16],
     pool: &mut [u32],
@@ -456,7 +456,7 @@ fn lambda(
 }
 
 // parse_thread_exp and parse_async_expr, by the flag that they set.
-#[cycle(actual_around_array_at_keyword_at_symbol_behind_call_climb_enclosed_entries_expression_hash_index_infix_exp_item_lambda_list_operation_pair_prefix_prefix_part_shell_started_sub_exp)]
+#[cycle(expressions)]
 fn started(
     tokens: &[u16],
     pool: &mut [u32],
@@ -482,7 +482,7 @@ fn started(
 }
 
 // parse_sub_expression
-#[cycle(actual_around_array_at_keyword_at_symbol_behind_call_climb_enclosed_entries_expression_hash_index_infix_exp_item_lambda_list_operation_pair_prefix_prefix_part_shell_started_sub_exp)]
+#[cycle(expressions)]
 fn sub_exp(
     tokens: &[u16],
     pool: &mut [u32],
@@ -510,7 +510,7 @@ fn sub_exp(
 }
 
 // The loop of parse_expression, above an order and behind what stands in the first `rows` rows.
-#[cycle(actual_around_array_at_keyword_at_symbol_behind_call_climb_enclosed_entries_expression_hash_index_infix_exp_item_lambda_list_operation_pair_prefix_prefix_part_shell_started_sub_exp)]
+#[cycle(expressions)]
 fn climb(
     tokens: &[u16],
     pool: &mut [u32],
@@ -543,7 +543,7 @@ fn climb(
 
 // What an operator does behind its left side: the branches in the loop of parse_expression.
 // `climb` comes here with operators only, so the first branch is never taken; `infix_exp` has one caller, and is compiled into it.
-#[cycle(actual_around_array_at_keyword_at_symbol_behind_call_climb_enclosed_entries_expression_hash_index_infix_exp_item_lambda_list_operation_pair_prefix_prefix_part_shell_started_sub_exp)]
+#[cycle(expressions)]
 fn operation(
     tokens: &[u16],
     pool: &mut [u32],
@@ -571,7 +571,7 @@ fn operation(
 }
 
 // parse_infix_expression
-#[cycle(actual_around_array_at_keyword_at_symbol_behind_call_climb_enclosed_entries_expression_hash_index_infix_exp_item_lambda_list_operation_pair_prefix_prefix_part_shell_started_sub_exp)]
+#[cycle(expressions)]
 fn infix_exp(
     tokens: &[u16],
     pool: &mut [u32],
@@ -608,7 +608,7 @@ fn infix_exp(
 }
 
 // The arguments of a call and their closing sign, which is due by the mode, behind the first `rows` rows of the part.
-#[cycle(actual_around_array_at_keyword_at_symbol_behind_call_climb_enclosed_entries_expression_hash_index_infix_exp_item_lambda_list_operation_pair_prefix_prefix_part_shell_started_sub_exp)]
+#[cycle(expressions)]
 fn actual(
     tokens: &[u16],
     pool: &mut [u32],
@@ -641,7 +641,7 @@ fn actual(
 }
 
 // parse_call_expression: with arguments any token closes it, unless the mode asks for the right one.
-#[cycle(actual_around_array_at_keyword_at_symbol_behind_call_climb_enclosed_entries_expression_hash_index_infix_exp_item_lambda_list_operation_pair_prefix_prefix_part_shell_started_sub_exp)]
+#[cycle(expressions)]
 fn call(
     tokens: &[u16],
     pool: &mut [u32],
@@ -667,7 +667,7 @@ fn call(
 }
 
 // parse_index_expression
-#[cycle(actual_around_array_at_keyword_at_symbol_behind_call_climb_enclosed_entries_expression_hash_index_infix_exp_item_lambda_list_operation_pair_prefix_prefix_part_shell_started_sub_exp)]
+#[cycle(expressions)]
 fn index(
     tokens: &[u16],
     pool: &mut [u32],

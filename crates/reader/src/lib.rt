@@ -1,4 +1,6 @@
 // The readers over an array of token words, and the one way in.
+#![tactic(auto)]
+
 mod dots;
 mod expressions;
 mod names;
@@ -25,6 +27,7 @@ use words::Cursor;
 
 // The three entries.
 #[derive(Drop)]
+#[derive(Clone, Copy)]
 pub enum Entry {
     Expression,
     Statement,

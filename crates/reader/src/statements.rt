@@ -22,7 +22,7 @@ use tokens::{Keyword, Symbol, Token};
 use words::Cursor;
 
 // parse_statement, where `allow` more expressions and statements may be open.
-#[cycle(at_keyword_block_block_behind_body_braced_clause_for_each_for_loop_function_if_statement_one_behind_statement_statements_try_statement_while_statement)]
+#[cycle(statements)]
 pub fn statement(
     tokens: &[u16],
     pool: &mut [u32],
@@ -47,6 +47,7 @@ pub fn statement(
 }
 
 // Whether a statement that begins with a keyword may not end right behind it.
+#[tactic(auto, unfolding(crate::specs::Promises::further))]
 fn goes_further(k: Keyword) -> bool
     ensures { result ≡ further (word (token.Keyword k)) }
 {
@@ -66,7 +67,7 @@ fn goes_further(k: Keyword) -> bool
 }
 
 // The statements that begin with a keyword.
-#[cycle(at_keyword_block_block_behind_body_braced_clause_for_each_for_loop_function_if_statement_one_behind_statement_statements_try_statement_while_statement)]
+#[cycle(statements)]
 fn at_keyword(
     tokens: &[u16],
     pool: &mut [u32],
@@ -104,7 +105,7 @@ fn at_keyword(
 }
 
 // Statements up to the token `close`, behind those that stand in the first `rows` rows: the loop of parse_block_statement, and of a whole script.
-#[cycle(at_keyword_block_block_behind_body_braced_clause_for_each_for_loop_function_if_statement_one_behind_statement_statements_try_statement_while_statement)]
+#[cycle(statements)]
 pub fn statements(
     tokens: &[u16],
     pool: &mut [u32],
@@ -140,7 +141,7 @@ pub fn statements(
 }
 
 // A statement behind the first `rows` rows of the part.
-#[cycle(at_keyword_block_block_behind_body_braced_clause_for_each_for_loop_function_if_statement_one_behind_statement_statements_try_statement_while_statement)]
+#[cycle(statements)]
 fn one_behind(
     tokens: &[u16],
     pool: &mut [u32],
@@ -162,7 +163,7 @@ fn one_behind(
 }
 
 // parse_block_statement, whose opener comes next and may be any token.
-#[cycle(at_keyword_block_block_behind_body_braced_clause_for_each_for_loop_function_if_statement_one_behind_statement_statements_try_statement_while_statement)]
+#[cycle(statements)]
 fn block(tokens: &[u16], pool: &mut [u32], first: usize, c: Cursor, mode: Mode, less: usize) -> Read
     requires { Ready tokens.now pool.old first c }
     ensures { Fresh one (spec.block (by mode) tokens.now (expression (by mode) tokens.now less) (spec.statement (by mode) tokens.now less)) tokens.now c first result pool.old pool.new }
@@ -186,7 +187,7 @@ fn block(tokens: &[u16], pool: &mut [u32], first: usize, c: Cursor, mode: Mode, 
 }
 
 // A block behind the first `rows` rows of the part.
-#[cycle(at_keyword_block_block_behind_body_braced_clause_for_each_for_loop_function_if_statement_one_behind_statement_statements_try_statement_while_statement)]
+#[cycle(statements)]
 fn block_behind(
     tokens: &[u16],
     pool: &mut [u32],
@@ -209,7 +210,7 @@ fn block_behind(
 
 // A sign that comes next and an opening brace behind it, where it is due, or else the refusals `missing` and `bare`; and the block, behind the
 // first `rows` rows of the part.
-#[cycle(at_keyword_block_block_behind_body_braced_clause_for_each_for_loop_function_if_statement_one_behind_statement_statements_try_statement_while_statement)]
+#[cycle(statements)]
 fn body(
     tokens: &[u16],
     pool: &mut [u32],
@@ -234,7 +235,7 @@ fn body(
 }
 
 // parse_function_statement behind `func`, at the name.
-#[cycle(at_keyword_block_block_behind_body_braced_clause_for_each_for_loop_function_if_statement_one_behind_statement_statements_try_statement_while_statement)]
+#[cycle(statements)]
 fn function(
     tokens: &[u16],
     pool: &mut [u32],
@@ -276,7 +277,7 @@ fn function(
 }
 
 // parse_if_statement
-#[cycle(at_keyword_block_block_behind_body_braced_clause_for_each_for_loop_function_if_statement_one_behind_statement_statements_try_statement_while_statement)]
+#[cycle(statements)]
 fn if_statement(
     tokens: &[u16],
     pool: &mut [u32],
@@ -332,7 +333,7 @@ fn if_statement(
 }
 
 // parse_while_statement
-#[cycle(at_keyword_block_block_behind_body_braced_clause_for_each_for_loop_function_if_statement_one_behind_statement_statements_try_statement_while_statement)]
+#[cycle(statements)]
 fn while_statement(
     tokens: &[u16],
     pool: &mut [u32],
@@ -372,7 +373,7 @@ fn while_statement(
 }
 
 // parse_for_each_statement
-#[cycle(at_keyword_block_block_behind_body_braced_clause_for_each_for_loop_function_if_statement_one_behind_statement_statements_try_statement_while_statement)]
+#[cycle(statements)]
 fn for_each(
     tokens: &[u16],
     pool: &mut [u32],
@@ -418,7 +419,7 @@ fn for_each(
 }
 
 // parse_for_loop_statement
-#[cycle(at_keyword_block_block_behind_body_braced_clause_for_each_for_loop_function_if_statement_one_behind_statement_statements_try_statement_while_statement)]
+#[cycle(statements)]
 fn for_loop(
     tokens: &[u16],
     pool: &mut [u32],
@@ -460,7 +461,7 @@ fn for_loop(
 }
 
 // An opening brace that comes next, where it is due, or else the refusal `number`; and its block, behind the first `rows` rows of the part.
-#[cycle(at_keyword_block_block_behind_body_braced_clause_for_each_for_loop_function_if_statement_one_behind_statement_statements_try_statement_while_statement)]
+#[cycle(statements)]
 fn braced(
     tokens: &[u16],
     pool: &mut [u32],
@@ -482,7 +483,7 @@ fn braced(
 }
 
 // The block of a keyword that comes next, braced as above, or none: the ends of parse_if_statement and of parse_try_statement.
-#[cycle(at_keyword_block_block_behind_body_braced_clause_for_each_for_loop_function_if_statement_one_behind_statement_statements_try_statement_while_statement)]
+#[cycle(statements)]
 fn clause(
     tokens: &[u16],
     pool: &mut [u32],
@@ -506,7 +507,7 @@ fn clause(
 }
 
 // parse_try_statement
-#[cycle(at_keyword_block_block_behind_body_braced_clause_for_each_for_loop_function_if_statement_one_behind_statement_statements_try_statement_while_statement)]
+#[cycle(statements)]
 fn try_statement(
     tokens: &[u16],
     pool: &mut [u32],
