@@ -1,4 +1,6 @@
 // The names of the kinds, put as JSON strings.
+#![tactic(auto)]
+
 ghost use Rattle.std.specs.Prelude.{[], ◌-◌, ◌≤◌, ◌<◌, get_or};
 ghost use Rattle.json_text.specs.Values.{quoted};
 ghost use Rattle.json_text.specs.Json.{expression_names, statement_names, name};

@@ -2,5 +2,7 @@
 pub mod Puts
 mod Plain
 mod Turns
+mod Read
+mod Folding
 pub mod Valued
 pub mod Determined

@@ -1,4 +1,6 @@
 // The value of a payload, put into a lent slice.
+#![tactic(auto)]
+
 mod escapes;
 mod put;
 mod texts;

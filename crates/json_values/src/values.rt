@@ -35,11 +35,14 @@ fn number_of(bytes: &[u8], most: usize) -> u64
     n
 }
 
+// From here on 64 bits are a number below 0.
+const SIGNED: u64 = 0x8000_0000_0000_0000;
+
 // Puts 64 bits as a signed number.
 fn put_signed(out: &mut [u8], at: usize, n: u64) -> usize
     ensures { Puts (signed n) out.old at result out.new }
 {
-    if n < 0x8000_0000_0000_0000 {
+    if n < SIGNED {
         return put_decimal(out, at, n);
     }
     let place = put_byte(out, at, b'-');

@@ -1,7 +1,7 @@
 -- A tree that the check over its file passed is ready to be written, where it isn't too deep.
 use Prim.Native.Nat.{ℕ, suc, ◌+◌, ◌-◌, ◌≤◌, ◌<◌}
 use native.Mathlib.Omega.{arith}
-use mathlib.Core.Path.{◌≡◌, refl, sym, ap, subst, ◌∙◌}
+use mathlib.Core.Path.{◌≡◌, refl, sym, ap, ◌∙◌}
 use mathlib.Core.Bool.{Bool, true, false, ◌&&◌}
 use mathlib.Core.List.{List, [], ◌∷◌}
 use lib.ListN.{length, get_or}
@@ -13,7 +13,7 @@ use Rattle.slots.specs.Slots.{any-root, fits}
 use Rattle.payloads.specs.Fields.{Field, fields_of}
 use Rattle.payloads.specs.Needs.{placed}
 use Rattle.payloads.specs.Index.{held, laid}
-use Rattle.trees.specs.Pool.{In, row_fine, Reached, start, on, Bad, fault, Holds, infix_row, row, HoldsAll, none, more}
+use Rattle.trees.specs.Pool.{In, row_fine, Reached, start, on, fault, Holds, infix_row, row, HoldsAll, none, more}
 use Rattle.trees.specs.Verdict.{NoneBad}
 use Rattle.trees.proofs.Sound.{holds_if}
 use Rattle.placed.specs.declared.Placed.{Placed}

@@ -1,10 +1,10 @@
 -- The turns of the loop that puts the rows of a list.
 use Prim.Native.Nat.{ℕ}
 use native.Mathlib.Omega.{arith}
-use mathlib.Core.Path.{◌≡◌, refl, sym, ap, ◌∙◌}
-use mathlib.Core.List.{List, [], ◌∷◌, ◌++◌}
+use mathlib.Core.Path.{◌≡◌, refl, sym, ◌∙◌}
+use mathlib.Core.List.{List, [], ◌∷◌}
 use lib.ListN.{length}
-use Rattle.grammar.specs.Tree.{Tree, Trees, nil, ◌▸◌}
+use Rattle.grammar.specs.Tree.{Tree, Trees}
 use Rattle.grammar.specs.Script.{word_of}
 use Rattle.payloads.specs.Fields.{fields_of}
 use Rattle.trees.specs.Pool.{Holds, HoldsAll, none, more}

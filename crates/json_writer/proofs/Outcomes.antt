@@ -1,15 +1,14 @@
 -- What writing answers, put together; and that it has one answer.
-use Prim.Native.Nat.{ℕ, ◌-◌, ◌≤◌, ◌<◌}
+use Prim.Native.Nat.{ℕ, ◌≤◌, ◌<◌}
 use native.Mathlib.Decide.{dec_lt}
 use native.Mathlib.Omega.{arith}
-use mathlib.Core.Path.{◌≡◌, refl, sym, ap, subst, ◌∙◌}
-use mathlib.Core.List.{List, ◌++◌}
+use mathlib.Core.Path.{◌≡◌, refl, ap}
+use mathlib.Core.List.{List}
 use lib.ListN.{length, replicate}
 use Rattle.grammar.specs.Tree.{Tree}
 use Rattle.payloads.specs.Fields.{fields_of}
 use Rattle.trees.specs.Pool.{Holds}
 use Rattle.trees.proofs.Unique.{one_tree}
-use Rattle.placed.specs.declared.Placed.{Placed}
 use Rattle.placed.specs.declared.Placed.TheVariants as over
 use Rattle.placed.specs.Over.{LowestOf, NoneOf, Over}
 use Rattle.placed.proofs.Unique.{one_lowest_of, one_over}

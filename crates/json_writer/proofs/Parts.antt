@@ -1,17 +1,17 @@
 -- The parts of a tree that is ready to be written: the trees of its slots, and those of a list one by one.
-use Prim.Native.Nat.{ℕ, suc, ◌+◌, ◌-◌, ◌≤◌, ◌<◌}
+use Prim.Native.Nat.{ℕ, suc, ◌-◌, ◌≤◌, ◌<◌}
 use native.Mathlib.Omega.{arith}
-use mathlib.Core.Path.{◌≡◌, refl, sym, ap, subst, ◌∙◌}
+use mathlib.Core.Path.{◌≡◌, refl, sym, ◌∙◌}
 use mathlib.Core.Bool.{Bool, true, false, cond}
 use mathlib.Core.List.{List}
-use lib.Dec.{eqb, ltb}
+use lib.Dec.{ltb}
 use native.Mathlib.Decide.{dec_lt}
 use borrow.Author.Tests.{lt-ltb, le-ltb}
 use Rattle.grammar.specs.Tree.{Tree, infixed, node, Trees, nil, ◌▸◌}
 use Rattle.grammar.specs.Script.{word_of}
-use Rattle.payloads.specs.Fields.{Field, fields_of, class_at}
+use Rattle.payloads.specs.Fields.{Field, fields_of}
 use Rattle.payloads.specs.Needs.{needs, placed}
-use Rattle.trees.specs.Pool.{In, row_fine, Reached, Holds, infix_row, row, HoldsAll, none, more}
+use Rattle.trees.specs.Pool.{Holds, infix_row, row, HoldsAll, none, more}
 use Rattle.json_text.specs.Claims.{all_placed, each_placed}
 use Rattle.json_text.proofs.Injective.{place, infix_placed, more_placed}
 use Rattle.json_writer.specs.Ready.{higher, tall, tallest, Ready, AllReady}

@@ -1,10 +1,9 @@
 -- Of accepted calls: the same bytes exactly where trees are alike, and every text is JSON.
-use Prim.Native.Nat.{ℕ, ◌-◌, ◌≤◌}
+use Prim.Native.Nat.{ℕ}
 use native.Mathlib.Omega.{arith}
-use mathlib.Core.Path.{◌≡◌, refl, sym, ap, subst, ◌∙◌}
-use mathlib.Core.Bool.{true}
-use mathlib.Core.List.{List, ◌++◌}
-use lib.ListN.{length, take, replicate}
+use mathlib.Core.Path.{◌≡◌, refl, sym, ◌∙◌}
+use mathlib.Core.List.{List}
+use lib.ListN.{length}
 use lib.Seq.{take_at}
 use Rattle.grammar.specs.Tree.{Tree}
 use Rattle.payloads.specs.Fields.{fields_of}

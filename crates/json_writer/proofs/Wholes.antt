@@ -1,11 +1,10 @@
 -- Texts from their parts: what is put for a payload, a head, a slot and a row.
 use Prim.Native.Nat.{ℕ, ◌+◌, ◌*◌, ◌≤◌, ◌<◌}
 use native.Mathlib.Omega.{arith}
-use mathlib.Core.Path.{◌≡◌, refl, sym, ap, subst, ◌∙◌}
-use mathlib.Core.Bool.{Bool, true, false}
+use mathlib.Core.Path.{◌≡◌, refl, ap, ◌∙◌}
+use mathlib.Core.Bool.{true, false}
 use mathlib.Core.List.{List, [], ◌∷◌, ◌++◌, append_assoc}
-use lib.ListN.{length}
-use Rattle.grammar.specs.Tree.{Tree, infixed, node, Trees, nil, ◌▸◌}
+use Rattle.grammar.specs.Tree.{Tree, Trees, nil, ◌▸◌}
 use Rattle.grammar.specs.Script.{word_of}
 use Rattle.slots.specs.Slots.{Slot, Many, no as nowhere, one as single, at_most_one, any, some, Takes, names, expressions, statements, blocks, pairs, plain-identifier, any-root, ◌of◌, slot}
 use Rattle.slots.specs.Fine.{is_list}
@@ -17,10 +16,10 @@ use Rattle.payloads.specs.Needs.{needs, placed}
 use Rattle.payloads.specs.Index.{laid, payload_by}
 use Rattle.payloads.proofs.Same.{same_fields}
 use Rattle.payloads.proofs.LooksUp.{looks_up}
-use Rattle.trees.specs.Pool.{In, Holds, infix_row, row, HoldsAll, none, more}
+use Rattle.trees.specs.Pool.{Holds, infix_row, row, HoldsAll, none, more}
 use Rattle.trees.proofs.Sound.{infix_slots}
 use Rattle.json_text.specs.Json.{shown, value, paid, head, listed, array, object_or_null, child, member, text, texts}
-use Rattle.json_text.proofs.Rows.{paid_none, paid_some}
+use Rattle.json_text.proofs.Rows.{paid_some}
 use Rattle.json_text.proofs.Injective.{placed_proper}
 use Rattle.json_values.specs.Puts.{Puts}
 use Rattle.json_values.specs.Valued.{valued}

@@ -1,4 +1,6 @@
 // The writer of trees as JSON: a tree of a pool whose payloads are fields of a file, as one JSON text.
+#![tactic(auto)]
+
 mod deep;
 mod head;
 mod row;
@@ -19,6 +21,7 @@ const TOO_SHORT: u32 = 32;
 
 // What writing a tree answers: the length of its text; or a refusal, by its number and place.
 #[derive(Drop)]
+#[derive(Clone, Copy)]
 pub enum Told {
     Bytes(usize),
     Refused(u32, usize),

@@ -32,7 +32,7 @@ fn put_key(out: &mut [u8], at: usize, i: usize) -> usize
 }
 
 // The rows of a list with commas between them, the first at c; none at 0.
-#[cycle(put_members_put_row_put_slot)]
+#[cycle(rows)]
 fn put_members(
     pool: &[u32],
     c: usize,
@@ -61,7 +61,7 @@ fn put_members(
 }
 
 // The member of a row's slot: an object or null, or an array; nothing for a slot that the kind doesn't have.
-#[cycle(put_members_put_row_put_slot)]
+#[cycle(rows)]
 fn put_slot(
     pool: &[u32],
     r: usize,
@@ -97,7 +97,7 @@ fn put_slot(
 }
 
 // The object of a row. No path from it through children has more rows than are left.
-#[cycle(put_members_put_row_put_slot)]
+#[cycle(rows)]
 pub fn put_row(
     pool: &[u32],
     r: usize,
