@@ -1,4 +1,6 @@
 // Reads a token file on standard input as a whole script, and prints the answer and each row that it uses.
+#![tactic(auto)]
+
 ghost use Rattle.std.specs.Prelude.{◌≡◌, [], ◌≤◌, length, take, get_or};
 ghost use Rattle.lines.specs.Lines.{used, longest};
 ghost use Rattle.lines.specs.Lines.{text as whole-text, lines as text-lines};
@@ -6,10 +8,10 @@ ghost use Rattle.outline.specs.Outlined.{outlined};
 
 use answer::Answer;
 use files::Fields;
-use libc::{STDIN_FILENO, STDOUT_FILENO};
 use lines::LINE;
 use modes::Mode;
 use rows::WIDTH;
+use std::io;
 
 // The bytes of the longest file and one more, the words of the most tokens, and the words of 1,800 rows.
 const BYTES: usize = 60001;
@@ -53,35 +55,32 @@ fn line(answer: Answer, pool: &[u32], i: usize, out: &mut [u8]) -> usize
     }
 }
 
-// Prints a line of the text; false if that can't be written.
-fn print_line(answer: Answer, pool: &[u32], i: usize) -> bool
+// Prints a line of the text.
+fn print_line(out: &impl Print, answer: Answer, pool: &[u32], i: usize) -> io::Result<()>
     requires { i ≤ used answer }
 {
-    let mut out: [u8; LINE] = [0; LINE];
-    let n = line(answer, pool, i, &mut out);
-    io::write_all(STDOUT_FILENO, &out[..n])
+    let mut bytes: [u8; LINE] = [0; LINE];
+    let n = line(answer, pool, i, &mut bytes);
+    out.write_all(&bytes[..n])
 }
 
 // Prints the text, line after line; stops at one that can't be written.
-fn print(answer: Answer, pool: &[u32]) {
-    if !print_line(answer, pool, 0) {
-        return;
-    }
+fn print(out: &impl Print, answer: Answer, pool: &[u32]) -> io::Result<()> {
+    print_line(out, answer, pool, 0)?;
     let rows = count(answer);
     let mut i = 0;
     while i < rows {
         i += 1;
-        if !print_line(answer, pool, i) {
-            return;
-        }
+        print_line(out, answer, pool, i)?;
     }
+    Ok(())
 }
 
-fn main() {
+fn main(rt: HostRuntime) -> io::Result<()> {
     let mut bytes: [u8; BYTES] = [0; BYTES];
     let mut tokens: [u16; TOKENS] = [0; TOKENS];
     let mut pool: [u32; POOL] = [0; POOL];
-    let n = io::read_full(STDIN_FILENO, &mut bytes);
+    let n = input::read_full(&mut rt.stdin(), &mut bytes)?;
     let answer = read(&bytes[..n], &mut tokens, &mut pool);
-    print(answer, &pool);
+    print(&rt, answer, &pool)
 }

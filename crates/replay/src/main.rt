@@ -1,11 +1,14 @@
 // Replays the recorded cases on standard input, and says where an entry answers otherwise than its record.
+#![tactic(auto)]
+
 mod compare;
 mod stream;
 
 use answer::Answer;
-use libc::STDOUT_FILENO;
 use modes::mode_of;
 use rows::{MOST, WIDTH};
+use std::io;
+use std::io::Read;
 use stream::{half, read};
 
 // The most words of an array and of a pool, which has two rows more than are ever used, and the bytes of such a case with its
@@ -63,62 +66,60 @@ fn replay(bytes: &[u8], tokens: &mut [u16], pool: &mut [u32]) -> u8 {
     agrees(bytes, &mut tokens[..count], &mut pool[..size]) as u8
 }
 
-// Writes a number and a text.
-fn print(n: u64, text: &[u8]) {
-    io::print_decimal(STDOUT_FILENO, n);
-    io::write_all(STDOUT_FILENO, text);
-}
-
 // Says what came of a case, if it did.
-fn say(is_so: bool, case: u64, what: &[u8]) {
+fn say(out: &impl Print, is_so: bool, case: u64, what: &str) -> io::Result<()> {
     if is_so {
-        io::write_all(STDOUT_FILENO, b"case ");
-        print(case, what);
+        println!(out; "case {case} {what}")?;
     }
+    Ok(())
 }
 
 // Says what came of a case that was replayed or skipped, unless all is well.
-fn say_verdict(case: u64, verdict: u8) {
-    say(verdict == DIFFERS, case, b" differs\n");
-    say(verdict == SKIPPED, case, b" is skipped: it doesn't fit\n");
+fn say_verdict(out: &impl Print, case: u64, verdict: u8) -> io::Result<()> {
+    say(out, verdict == DIFFERS, case, "differs")?;
+    say(out, verdict == SKIPPED, case, "is skipped: it doesn't fit")
 }
 
 // The last line: the counts.
-fn print_counts(replayed: u64, differing: u64, skipped: u64) {
-    print(replayed, b" replayed, ");
-    print(differing, b" differing, ");
-    print(skipped, b" skipped\n");
+fn print_counts(out: &impl Print, replayed: u64, differing: u64, skipped: u64) -> io::Result<()> {
+    println!(out; "{replayed} replayed, {differing} differing, {skipped} skipped")
 }
 
 // Reads the next case with its record; false if the stream ends before. That it ends in the middle of the case is said.
-fn take(bytes: &mut [u8], case: u64) -> bool {
-    let got = read(bytes, 0, stream::HEAD_END);
+fn take(source: &mut impl Read, out: &impl Print, bytes: &mut [u8], case: u64) -> io::Result<bool> {
+    let got = read(source, bytes, 0, stream::HEAD_END)?;
     let n = 2 * half(bytes, stream::COUNT) as usize;
-    let whole = (read(bytes, stream::TOKENS_AT, stream::TOKENS_AT + n) == n)
-        & stream::record_read(bytes);
-    say((got > 0) & !whole, case, b" is cut short\n");
-    whole
+    let whole = (read(source, bytes, stream::TOKENS_AT, stream::TOKENS_AT + n)? == n)
+        & stream::record_read(source, bytes)?;
+    say(out, (got > 0) & !whole, case, "is cut short")?;
+    Ok(whole)
 }
 
 // Replays case after case. A proved loop has to end, and nothing says that a stream does, so this one ends at a number of
 // cases that no run gets to.
-fn replay_all(bytes: &mut [u8], tokens: &mut [u16], pool: &mut [u32]) {
+fn replay_all(
+    source: &mut impl Read,
+    out: &impl Print,
+    bytes: &mut [u8],
+    tokens: &mut [u16],
+    pool: &mut [u32],
+) -> io::Result<()> {
     let mut differing = 0;
     let mut skipped = 0;
     let mut case = 0;
-    while (case < u64::MAX) & take(bytes, case) {
+    while (case < u64::MAX) & take(source, out, bytes, case)? {
         let verdict = replay(bytes, tokens, pool);
-        say_verdict(case, verdict);
+        say_verdict(out, case, verdict)?;
         differing += (verdict == DIFFERS) as u64;
         skipped += (verdict == SKIPPED) as u64;
         case += 1;
     }
-    print_counts(case - skipped, differing, skipped);
+    print_counts(out, case - skipped, differing, skipped)
 }
 
-fn main() {
+fn main(rt: HostRuntime) -> io::Result<()> {
     let mut bytes: [u8; BYTES] = [0; BYTES];
     let mut tokens: [u16; TOKENS] = [0; TOKENS];
     let mut pool: [u32; POOL] = [compare::OTHER; POOL];
-    replay_all(&mut bytes, &mut tokens, &mut pool);
+    replay_all(&mut rt.stdin(), &rt, &mut bytes, &mut tokens, &mut pool)
 }

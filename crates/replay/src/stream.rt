@@ -2,8 +2,9 @@
 ghost use Rattle.std.specs.Prelude.{◌*◌, ◌≤◌, ◌<◌};
 ghost use Rattle.grammar.specs.Tree.{width};
 
-use libc::STDIN_FILENO;
 use rows::WIDTH;
+use std::io;
+use std::io::Read;
 
 // Where the parts of a case lie in its buffer, counted in 16-bit numbers: the entry, the start place, the pool's length and
 // the number of tokens; the tokens; the record's four words, and 1 if every pool word behind the used rows is zero; the rows.
@@ -42,13 +43,13 @@ pub const ROWS_AT: usize = 131104;
 const RECORD: usize = 20;
 
 // Reads into a part of a buffer; how many bytes, 0 if the buffer is too short.
-pub fn read(bytes: &mut [u8], from: usize, to: usize) -> usize
+pub fn read(source: &mut impl Read, bytes: &mut [u8], from: usize, to: usize) -> io::Result<usize>
     requires { from ≤ to }
 {
     if bytes.len() < to {
-        return 0;
+        return Ok(0);
     }
-    io::read_full(STDIN_FILENO, &mut bytes[from..to])
+    input::read_full(source, &mut bytes[from..to])
 }
 
 // The number of two bytes.
@@ -85,8 +86,8 @@ pub fn row_words(bytes: &[u8]) -> usize
 }
 
 // Reads the record of a case; false if the stream ends before, or the buffer is too short.
-pub fn record_read(bytes: &mut [u8]) -> bool {
-    let got = read(bytes, RECORD_AT, ROWS_AT);
+pub fn record_read(source: &mut impl Read, bytes: &mut [u8]) -> io::Result<bool> {
+    let got = read(source, bytes, RECORD_AT, ROWS_AT)?;
     let n = 4 * row_words(bytes);
-    (got == RECORD) & (read(bytes, ROWS_AT, ROWS_AT + n) == n)
+    Ok((got == RECORD) & (read(source, bytes, ROWS_AT, ROWS_AT + n)? == n))
 }

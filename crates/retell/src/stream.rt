@@ -2,7 +2,8 @@
 // The file between these has a buffer of its own. Numbers stand in the stream with their low byte first.
 ghost use Rattle.std.specs.Prelude.{◌≤◌, ◌<◌};
 
-use libc::STDIN_FILENO;
+use std::io;
+use std::io::Read;
 
 // Where the numbers of a head lie, counted in 32-bit ones: the root; the lengths of the pool, the file and the output; the
 // number and value of the answer. Behind it the part begins.
@@ -67,12 +68,12 @@ pub fn text_length(bytes: &[u8]) -> usize
 }
 
 // Reads bytes into a place of a buffer; whether so many were there, and the buffer is long enough.
-pub fn read(bytes: &mut [u8], from: usize, n: usize) -> bool
+pub fn read(source: &mut impl Read, bytes: &mut [u8], from: usize, n: usize) -> io::Result<bool>
     requires { (from < 4294967296) × (n < 68719476736) }
 {
     let to = from + n;
     if bytes.len() < to {
-        return false;
+        return Ok(false);
     }
-    io::read_full(STDIN_FILENO, &mut bytes[from..to]) == n
+    Ok(input::read_full(source, &mut bytes[from..to])? == n)
 }

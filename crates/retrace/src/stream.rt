@@ -2,7 +2,8 @@
 // Numbers stand in it with their low byte first.
 ghost use Rattle.std.specs.Prelude.{◌≤◌, ◌<◌};
 
-use libc::STDIN_FILENO;
+use std::io;
+use std::io::Read;
 
 // Where the numbers of a head lie, counted in 16-bit ones: the root; the lengths of the pool and of the two slices; the number
 // and place of the answer. Behind it the part begins.
@@ -65,12 +66,12 @@ pub fn tokens(bytes: &[u8]) -> usize
 }
 
 // Reads bytes into a place of the buffer; whether so many were there, and the buffer is long enough.
-pub fn read(bytes: &mut [u8], from: usize, n: usize) -> bool
+pub fn read(source: &mut impl Read, bytes: &mut [u8], from: usize, n: usize) -> io::Result<bool>
     requires { (from < 4294967296) × (n < 68719476736) }
 {
     let to = from + n;
     if bytes.len() < to {
-        return false;
+        return Ok(false);
     }
-    io::read_full(STDIN_FILENO, &mut bytes[from..to]) == n
+    Ok(input::read_full(source, &mut bytes[from..to])? == n)
 }

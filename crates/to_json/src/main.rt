@@ -1,4 +1,6 @@
 // Reads a token file on standard input as a whole script by the original's rules, and prints its tree as JSON, or the line of a refusal.
+#![tactic(auto)]
+
 ghost use Rattle.std.specs.Prelude.{◌≡◌, ℕ, ◌-◌, ◌≤◌, length, take};
 ghost use Rattle.grammar.specs.Tree.{Trees};
 ghost use Rattle.grammar.specs.Parsed.{read};
@@ -11,9 +13,9 @@ ghost use Rattle.to_json.specs.Shown.{outcome, no, ShowsTree, most, Shows};
 use answer::Answer;
 use files::Fields;
 use json_writer::Told;
-use libc::{STDIN_FILENO, STDOUT_FILENO};
 use modes::Mode;
 use rows::WIDTH;
+use std::io;
 
 // The bytes of the longest file and one more, the words of the most tokens, and the words of more rows than so many tokens take.
 const BYTES: usize = 60001;
@@ -75,12 +77,12 @@ fn show(bytes: &[u8], tokens: &mut [u16], pool: &mut [u32], out: &mut [u8; OUT])
     }
 }
 
-fn main() {
+fn main(rt: HostRuntime) -> io::Result<()> {
     let mut bytes: [u8; BYTES] = [0; BYTES];
     let mut tokens: [u16; TOKENS] = [0; TOKENS];
     let mut pool: [u32; POOL] = [0; POOL];
     let mut out: [u8; OUT] = [0; OUT];
-    let n = io::read_full(STDIN_FILENO, &mut bytes);
+    let n = input::read_full(&mut rt.stdin(), &mut bytes)?;
     let shown = show(&bytes[..n], &mut tokens, &mut pool, &mut out);
-    io::write_all(STDOUT_FILENO, &out[..shown]);
+    rt.write_all(&out[..shown])
 }
