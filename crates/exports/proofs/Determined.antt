@@ -41,7 +41,7 @@ pub text_determined : Determines text.Post (λ κs r left. left.1.1.0.now)
 text_determined κs args r r' left left' p q = cc
 
 -- the check has one answer
-one_check : {pool : List ℕ} {root : ℕ} {slice left left' : List ℕ} → Checks pool root slice left → Checks pool root slice left' → left ≡ left'
+pub one_check : {pool : List ℕ} {root : ℕ} {slice left left' : List ℕ} → Checks pool root slice left → Checks pool root slice left' → left ≡ left'
 one_check {pool} {root} c d =
     let same = one_answer pool root c.verdict d.verdict in
     let one = c.four in
@@ -55,7 +55,7 @@ pub check_small_determined : Determines check-small.Post (λ κs r left. left.1.
 check_small_determined κs args r r' left left' p q = one_check p q
 
 -- and so has the writer
-one_put : {pool : List ℕ} {root : ℕ} {ws ps s ws' ps' s' ws'' ps'' s'' : List ℕ} → Puts pool root ws ps s ws' ps' s' → Puts pool root ws ps s ws'' ps'' s''
+pub one_put : {pool : List ℕ} {root : ℕ} {ws ps s ws' ps' s' ws'' ps'' s'' : List ℕ} → Puts pool root ws ps s ws' ps' s' → Puts pool root ws ps s ws'' ps'' s''
     → ◌≡◌ {A = List ℕ × List ℕ × List ℕ} (ws', ps', s') (ws'', ps'', s'')
 one_put {ws' = ws'} {ps'} {ws'' = ws''} {ps''} p q =
     let same = one_outcome p.writes q.writes in
@@ -73,7 +73,7 @@ pub write_small_determined : Determines {A = _ × _ × _} write-small.Post (λ �
 write_small_determined κs args r r' left left' p q = one_put p q
 
 -- and so has writing as JSON
-one_tell : {pool : List ℕ} {root : ℕ} {file text s text' s' text'' s'' : List ℕ} → Tells pool root file text s text' s' → Tells pool root file text s text'' s''
+pub one_tell : {pool : List ℕ} {root : ℕ} {file text s text' s' text'' s'' : List ℕ} → Tells pool root file text s text' s' → Tells pool root file text s text'' s''
     → ◌≡◌ {A = List ℕ × List ℕ} (text', s') (text'', s'')
 one_tell {text' = text'} {text'' = text''} p q =
     let same = one_telling p.tells q.tells in

@@ -1,4 +1,6 @@
-// The functions for C and Rust: each writes its answer as four words into the front of a lent slice.
+// The functions that C calls through `exports_c`: each writes its answer as four words into the front of a lent slice.
+#![tactic(auto)]
+
 ghost use Rattle.std.specs.Prelude.{◌≡◌, length};
 ghost use Rattle.grammar.specs.Script as spec;
 ghost use Rattle.modes.specs.Modes.{by, chosen};
@@ -10,8 +12,7 @@ ghost use Rattle.trees.specs.Leaves.{front};
 ghost use Rattle.exports.specs.Trees.{Checks, Puts, Tells};
 
 // Reads one expression from a start place, in strict mode or in the old one.
-#[unsafe(no_mangle)]
-pub extern "C" fn shigthapul_one_expression(
+pub fn shigthapul_one_expression(
     tokens: &[u16],
     pool: &mut [u32],
     start: usize,
@@ -26,8 +27,7 @@ pub extern "C" fn shigthapul_one_expression(
 }
 
 // Reads one statement from a start place, in strict mode or in the old one.
-#[unsafe(no_mangle)]
-pub extern "C" fn shigthapul_one_statement(
+pub fn shigthapul_one_statement(
     tokens: &[u16],
     pool: &mut [u32],
     start: usize,
@@ -42,13 +42,7 @@ pub extern "C" fn shigthapul_one_statement(
 }
 
 // Reads a whole script, in strict mode or in the old one.
-#[unsafe(no_mangle)]
-pub extern "C" fn shigthapul_whole_script(
-    tokens: &[u16],
-    pool: &mut [u32],
-    strict: bool,
-    answer: &mut [u64],
-)
+pub fn shigthapul_whole_script(tokens: &[u16], pool: &mut [u32], strict: bool, answer: &mut [u64])
     ensures answer { answer.new ≡ over (numbers (answered (spec.whole_script (by (chosen strict)) tokens.now (spec.rows (length pool.old))))) answer.old }
     ensures pool { pool.new ≡ spec.pool (length pool.old) (spec.whole_script (by (chosen strict)) tokens.now (spec.rows (length pool.old))) }
 {
@@ -57,8 +51,7 @@ pub extern "C" fn shigthapul_whole_script(
 }
 
 // Reads a token file into a buffer of token words.
-#[unsafe(no_mangle)]
-pub extern "C" fn shigthapul_read_file(bytes: &[u8], words: &mut [u16], answer: &mut [u64])
+pub fn shigthapul_read_file(bytes: &[u8], words: &mut [u16], answer: &mut [u64])
     ensures answer { answer.new ≡ over (file_words (file_answer bytes.now (length words.old))) answer.old }
     ensures words { words.new ≡ file_buffer bytes.now (length words.old) }
 {
@@ -67,8 +60,7 @@ pub extern "C" fn shigthapul_read_file(bytes: &[u8], words: &mut [u16], answer: 
 }
 
 // Folds a string's payload into the front of a work buffer.
-#[unsafe(no_mangle)]
-pub extern "C" fn shigthapul_fold(payload: &[u8], work: &mut [u8], answer: &mut [u64])
+pub fn shigthapul_fold(payload: &[u8], work: &mut [u8], answer: &mut [u64])
     ensures answer { answer.new ≡ over (fold_words (fold_answer payload.now work.old)) answer.old }
     ensures work { work.new ≡ fold_buffer payload.now work.old }
 {
@@ -77,8 +69,7 @@ pub extern "C" fn shigthapul_fold(payload: &[u8], work: &mut [u8], answer: &mut 
 }
 
 // Says where the text of a string is, and how long.
-#[unsafe(no_mangle)]
-pub extern "C" fn shigthapul_text<'a>(payload: &'a [u8], work: &'a [u8], answer: &mut [u64])
+pub fn shigthapul_text<'a>(payload: &'a [u8], work: &'a [u8], answer: &mut [u64])
     ensures answer { answer.new ≡ over (text_words payload.now work.now) answer.old }
 {
     four::put_text(answer, payload, work);
@@ -88,8 +79,7 @@ pub extern "C" fn shigthapul_text<'a>(payload: &'a [u8], work: &'a [u8], answer:
 //
 // An answer has four words, so of a longer slice only these are lent on. As the function then calls itself, the compiler
 // keeps the memory of the two checks out of its frame: a call takes no more stack than the pool's rows need.
-#[unsafe(no_mangle)]
-pub extern "C" fn shigthapul_check(pool: &[u32], root: usize, answer: &mut [u64])
+pub fn shigthapul_check(pool: &[u32], root: usize, answer: &mut [u64])
     ensures { Checks pool.now root answer.old answer.new }
 {
     if 4 < answer.len() {
@@ -105,8 +95,7 @@ pub extern "C" fn shigthapul_check(pool: &[u32], root: usize, answer: &mut [u64]
 }
 
 // The same of the front of a pool, with little stack whatever the pool.
-#[unsafe(no_mangle)]
-pub extern "C" fn shigthapul_check_small(pool: &[u32], root: usize, answer: &mut [u64])
+pub fn shigthapul_check_small(pool: &[u32], root: usize, answer: &mut [u64])
     ensures { Checks (front pool.now) root answer.old answer.new }
 {
     let checked = trees::check_small(pool, root);
@@ -114,8 +103,7 @@ pub extern "C" fn shigthapul_check_small(pool: &[u32], root: usize, answer: &mut
 }
 
 // Writes the tree at a root as token words, and the places of their payloads. It calls itself as the check does.
-#[unsafe(no_mangle)]
-pub extern "C" fn shigthapul_write(
+pub fn shigthapul_write(
     pool: &[u32],
     root: usize,
     words: &mut [u16],
@@ -137,8 +125,7 @@ pub extern "C" fn shigthapul_write(
 }
 
 // The same of the front of a pool, with little stack whatever the pool.
-#[unsafe(no_mangle)]
-pub extern "C" fn shigthapul_write_small(
+pub fn shigthapul_write_small(
     pool: &[u32],
     root: usize,
     words: &mut [u16],
@@ -152,14 +139,7 @@ pub extern "C" fn shigthapul_write_small(
 }
 
 // Writes the tree at a root as JSON, its payloads from the fields of a file. It calls itself as the check does.
-#[unsafe(no_mangle)]
-pub extern "C" fn shigthapul_json(
-    pool: &[u32],
-    root: usize,
-    file: &[u8],
-    text: &mut [u8],
-    answer: &mut [u64],
-)
+pub fn shigthapul_json(pool: &[u32], root: usize, file: &[u8], text: &mut [u8], answer: &mut [u64])
     ensures { Tells pool.now root file.now text.old answer.old text.new answer.new }
 {
     if 4 < answer.len() {
@@ -175,8 +155,7 @@ pub extern "C" fn shigthapul_json(
 }
 
 // The same of the front of a pool, with little stack whatever the pool.
-#[unsafe(no_mangle)]
-pub extern "C" fn shigthapul_json_small(
+pub fn shigthapul_json_small(
     pool: &[u32],
     root: usize,
     file: &[u8],
