@@ -7,7 +7,7 @@ QEMU_CPU=Nehalem
 export QEMU_CPU
 
 # Builds the bench for x86-64 over the original's text in a folder, and sets BENCH to the program. EXPORTS names another
-# archive of this reader than that of `rt staticlib exports`; without any, the bench has the other two readers only.
+# archive of this reader than that of `tools/build exports`; without any, the bench has the other two readers only.
 # With NATIVE set it is built for this machine, whatever that is, and without this reader.
 build_bench() { # SRC_DIR
     BOSON_SRC=$(cd "$1" && pwd)
@@ -40,7 +40,7 @@ build_ours() {
     if [ -f "$build_archive" ]; then
         echo "$build_archive"
     else
-        echo "bench: no $build_archive, so without this reader; make it by: rt staticlib exports" >&2
+        echo "bench: no $build_archive, so without this reader; make it by: tools/build exports" >&2
     fi
 }
 

@@ -5,7 +5,7 @@ use std::path::{Path, PathBuf};
 /// Names the folder of the static library.
 const FOLDER: &str = "SHIGTHAPUL_LIB_DIR";
 
-/// Where `rt staticlib exports` writes, as seen from this crate.
+/// Where `tools/build exports` writes, as seen from this crate.
 const DEFAULT: &str = "../../target/staticlib";
 
 fn main() {
@@ -15,7 +15,7 @@ fn main() {
     assert_eq!(target, "x86_64", "libexports.a links only into x86-64 programs");
     let folder = folder();
     let archive = folder.join("libexports.a");
-    let advice = "run `rt staticlib exports`, or name its folder by";
+    let advice = "run `tools/build exports`, or name its folder by";
     assert!(archive.is_file(), "no {}: {} {}", archive.display(), advice, FOLDER);
     println!("cargo:rerun-if-changed={}", archive.display());
     println!("cargo:rustc-link-search=native={}", folder.display());
