@@ -96,7 +96,7 @@ fn constant(line: &str) -> Option<(String, u32)> {
 #[test]
 fn the_rattle_source_has_the_same_codes() {
     let source = text_of("crates/tokens/specs/Symbols.antt");
-    for (kind, members) in [("symbol-code", members!(Symbol)), ("keyword-code", members!(Keyword))]
+    for (kind, members) in [("symbol_code", members!(Symbol)), ("keyword_code", members!(Keyword))]
     {
         let codes = source.lines().filter_map(|line| code(line, kind)).collect::<Vec<_>>();
         let expected: Vec<_> = members.into_iter().map(|(name, code, _)| (name, code)).collect();
@@ -104,7 +104,7 @@ fn the_rattle_source_has_the_same_codes() {
     }
 }
 
-/// The name and code of a line `symbol-code SPlus = 1`.
+/// The name and code of a line `symbol_code SPlus = 1`.
 fn code(line: &str, kind: &str) -> Option<(String, u32)> {
     let (name, code) = line.strip_prefix(kind)?.trim().split_once(" = ")?;
     Some((plain(name), code.parse().ok()?))

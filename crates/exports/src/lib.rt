@@ -78,7 +78,9 @@ pub fn shigthapul_text<'a>(payload: &'a [u8], work: &'a [u8], answer: &mut [u64]
 // Checks that the rows which a root reaches in a pool are a tree.
 //
 // An answer has four words, so of a longer slice only these are lent on. As the function then calls itself, the compiler
-// keeps the memory of the two checks out of its frame: a call takes no more stack than the pool's rows need.
+// keeps the memory of the two checks out of its frame, and as it is never inlined, out of its callers' frames too: a call
+// takes no more stack than the pool's rows need.
+#[inline(never)]
 pub fn shigthapul_check(pool: &[u32], root: usize, answer: &mut [u64])
     ensures { Checks pool.now root answer.old answer.new }
 {
@@ -103,6 +105,7 @@ pub fn shigthapul_check_small(pool: &[u32], root: usize, answer: &mut [u64])
 }
 
 // Writes the tree at a root as token words, and the places of their payloads. It calls itself as the check does.
+#[inline(never)]
 pub fn shigthapul_write(
     pool: &[u32],
     root: usize,
@@ -139,6 +142,7 @@ pub fn shigthapul_write_small(
 }
 
 // Writes the tree at a root as JSON, its payloads from the fields of a file. It calls itself as the check does.
+#[inline(never)]
 pub fn shigthapul_json(pool: &[u32], root: usize, file: &[u8], text: &mut [u8], answer: &mut [u64])
     ensures { Tells pool.now root file.now text.old answer.old text.new answer.new }
 {

@@ -1,6 +1,5 @@
 -- `exports::shigthapul_json` meets its contract: four words are the whole answer, and where the pool has few rows, its front is the pool.
 use native.Mathlib.Omega.{arith}
-use mathlib.Core.Path.{sym}
 use lib.Seq.{length-take-le}
 use Rattle.trees.proofs.Words.{whole_front}
 use Rattle.exports.proofs.Fours.{tells_whole}
