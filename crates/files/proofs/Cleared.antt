@@ -5,7 +5,7 @@ use Prim.Native.Nat.{ℕ, ◌+◌, ◌-◌, ◌≤◌, ◌<◌}
 use native.Mathlib.Numerals.{add-one}
 use native.Mathlib.Omega.{arith}
 use lib.ListN.{length, take, drop, set, replicate, length-append, length-replicate}
-use lib.ListN.{replicate-append-replicate, drop_of_length-le}
+use lib.ListN.{replicate-append-replicate, take-append-drop, drop_of_length-le}
 use lib.Seq.{drop-cons, append_snoc, set_at, length-take-le}
 
 -- a buffer that is 0 between two places
@@ -13,6 +13,12 @@ abbrev pub zeroed : (buffer : List ℕ) (from i : ℕ) → List ℕ
 zeroed buffer from i = (take from buffer ++ replicate (i - from) 0) ++ drop i buffer
 
 module _ (buffer : List ℕ) (from : ℕ) where
+  -- at first none
+  pub zero_none : buffer ≡ zeroed buffer from from
+  zero_none =
+      let none : from - from ≡ 0 = omega arith in
+      rw (none, append-nil (take from buffer), take-append-drop from buffer)
+
   -- one more behind those before it
   pub zero_more : (i : ℕ) → from ≤ i → i < length buffer → set (zeroed buffer from i) i 0 ≡ zeroed buffer from (i + 1)
   zero_more i l h =
