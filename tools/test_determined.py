@@ -20,6 +20,10 @@ class Stated(unittest.TestCase):
         proofs = USES + "pub a_b_determined : Determines {A = _ × _} a-b.Post (λ κs r left. r)\n"
         self.assertEqual(determined.stated(proofs), {"a_b"})
 
+    def test_a_theorem_of_a_generic_function_counts(self):
+        proofs = USES + "pub a_b_determined : (t : _) (l : _) → Determines (a-b.Post t l) (λ κs r left. r)\n"
+        self.assertEqual(determined.stated(proofs), {"a_b"})
+
     def test_a_theorem_over_the_contract_of_another_does_not_count(self):
         proofs = USES + "pub a_b_determined : Determines c.Post (λ κs r left. r)\n"
         self.assertEqual(determined.stated(proofs), set())

@@ -1,2 +1,4 @@
-mod Starts
+-- What answers tell, that each contract has one result, and what only the proofs here ask.
+pub mod Laws
 pub mod Determined
+mod Starts

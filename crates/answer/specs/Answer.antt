@@ -1,24 +1,37 @@
 -- What an entry answers to what was read, and what it does with the pool.
-use Rattle.std.specs.Prelude.{ℕ, ◌≡◌, List, [], ◌∷◌, ltb, length, replicate}
+use Rattle.std.specs.Prelude.{ℕ, ◌≡◌, List, [], ◌∷◌, ltb, length, replicate, Result, Ok, Err}
 use Rattle.grammar.specs.Tree.{Trees, sizes}
-use Rattle.grammar.specs.Parsed.{Parsed, refused, read, Check, met, failed, need, BadStart}
+use Rattle.grammar.specs.Parsed.{Parsed, refused, read, Check, need, BadStart}
 use Rattle.grammar.specs.Script.{both, array_good, pool}
-use Rattle.answer.specs.declared.Answer.{Answer}
-use Rattle.answer.specs.declared.Answer.TheVariants as an
-use Rattle.answer.specs.declared.Start.{Start}
-use Rattle.answer.specs.declared.Start.TheVariants as start
-use Rattle.answer.specs.declared.Read.{Read}
-use Rattle.answer.specs.declared.Read.TheVariants as the
+use Rattle.refusals.specs.Refusal.{Numbered, refusal, checked}
+use Rattle.answer.specs.declared.Piece.{Piece}
+use Rattle.answer.specs.declared.Accepted.{Accepted}
+
+-- What a reader read: so many rows, the reference of what was read, and the next place.
+abbrev pub piece : (rows head next : ℕ) → Piece
+piece rows head next = record { rows = rows; head = head; next = next }
+
+-- What a reader answers.
+abbrev pub Read : Type 0
+Read = Result Piece Numbered
+
+-- What an entry accepted: the root's reference, the rows used and the current place.
+abbrev pub accepted : (root rows place : ℕ) → Accepted
+accepted root rows place = record { root = root; rows = rows; place = place }
+
+-- What an entry answers.
+abbrev pub Answer : Type 0
+Answer = Result Accepted Numbered
 
 -- The answer to what the definition reads.
 abbrev pub answered : Parsed Trees → Answer
-answered (refused n p) = an.Refused n p
-answered (read us at left) = an.Accepted (sizes us) (sizes us) at
+answered (refused n p) = Err (refusal n p)
+answered (read us at left) = Ok (accepted (sizes us) (sizes us) at)
 
 -- The number and the values of an answer: 0, the root's reference, the rows used and the current place; or a refusal's number and place, and zeros.
 abbrev pub numbers : Answer → List ℕ
-numbers (an.Accepted root rows place) = 0 ∷ root ∷ rows ∷ place ∷ []
-numbers (an.Refused number place) = number ∷ place ∷ 0 ∷ 0 ∷ []
+numbers (Ok a) = 0 ∷ a.root ∷ a.rows ∷ a.place ∷ []
+numbers (Err e) = e.number ∷ e.place ∷ 0 ∷ 0 ∷ []
 
 -- The promise of an entry that is lent so many words: its answer, and every word of the pool as it is then.
 pub record Entered (P : Parsed Trees) (r : Answer) (words : ℕ) (ys : List ℕ) : Type 0 where
@@ -30,16 +43,15 @@ unfoldable pub checks : List ℕ → ℕ → Check
 checks ts at = both (array_good ts) (need (ltb at (length ts)) BadStart 0)
 
 -- Where reading starts.
-abbrev pub start_of : Check → ℕ → Start
-start_of met at = start.At at
-start_of (failed n p) at = start.Refused n p
+abbrev pub start_of : Check → ℕ → Result ℕ Numbered
+start_of = checked
 
 -- The answer to what a reader answers.
 abbrev pub ended : Read → Answer
-ended (the.Tree k h d) = an.Accepted h k d
-ended (the.Refused n p) = an.Refused n p
+ended (Ok t) = Ok (accepted t.head t.rows t.next)
+ended (Err e) = Err e
 
 -- The pool after what a reader answers: zero after a refusal.
 abbrev pub ended_pool : Read → List ℕ → List ℕ
-ended_pool (the.Tree k h d) ys = ys
-ended_pool (the.Refused n p) ys = replicate (length ys) 0
+ended_pool (Ok t) ys = ys
+ended_pool (Err e) ys = replicate (length ys) 0

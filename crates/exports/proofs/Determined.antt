@@ -4,9 +4,9 @@ use mathlib.Core.Path.{◌≡◌, ap}
 use mathlib.Core.List.{List}
 use Rattle.grammar.specs.Once.{Determines}
 use Rattle.trees.proofs.Unique.{one_answer}
-use Rattle.writer.specs.declared.Wrote.{Wrote}
+use Rattle.std.specs.Prelude.{Result}
+use Rattle.refusals.specs.Refusal.{Numbered}
 use Rattle.writer.proofs.Outcomes.{one_outcome}
-use Rattle.json_writer.specs.declared.Told.{Told}
 use Rattle.json_writer.proofs.Outcomes.{one_telling}
 use Rattle.exports.specs.Trees.{Checks, Puts, Tells}
 use Rattle.exports.proofs.shigthapul_one_expression.Reads as one_expression
@@ -59,9 +59,9 @@ pub one_put : {pool : List ℕ} {root : ℕ} {ws ps s ws' ps' s' ws'' ps'' s'' :
     → ◌≡◌ {A = List ℕ × List ℕ × List ℕ} (ws', ps', s') (ws'', ps'', s'')
 one_put {ws' = ws'} {ps'} {ws'' = ws''} {ps''} p q =
     let same = one_outcome p.writes q.writes in
-    let answer : p.answer ≡ q.answer = ap (λ (x : Wrote × List ℕ × List ℕ). x.0) same in
-    let words : ws' ≡ ws'' = ap (λ (x : Wrote × List ℕ × List ℕ). x.1) same in
-    let places : ps' ≡ ps'' = ap (λ (x : Wrote × List ℕ × List ℕ). x.2) same in
+    let answer : p.answer ≡ q.answer = ap (λ (x : Result ℕ Numbered × List ℕ × List ℕ). x.0) same in
+    let words : ws' ≡ ws'' = ap (λ (x : Result ℕ Numbered × List ℕ × List ℕ). x.1) same in
+    let places : ps' ≡ ps'' = ap (λ (x : Result ℕ Numbered × List ℕ × List ℕ). x.2) same in
     let one = p.four in
     let other = q.four in
     cc
@@ -77,8 +77,8 @@ pub one_tell : {pool : List ℕ} {root : ℕ} {file text s text' s' text'' s'' :
     → ◌≡◌ {A = List ℕ × List ℕ} (text', s') (text'', s'')
 one_tell {text' = text'} {text'' = text''} p q =
     let same = one_telling p.tells q.tells in
-    let answer : p.answer ≡ q.answer = ap (λ (x : Told × List ℕ). x.0) same in
-    let bytes : text' ≡ text'' = ap (λ (x : Told × List ℕ). x.1) same in
+    let answer : p.answer ≡ q.answer = ap (λ (x : Result ℕ Numbered × List ℕ). x.0) same in
+    let bytes : text' ≡ text'' = ap (λ (x : Result ℕ Numbered × List ℕ). x.1) same in
     let one = p.four in
     let other = q.four in
     cc

@@ -56,7 +56,7 @@ pub fn shigthapul_read_file(bytes: &[u8], words: &mut [u16], answer: &mut [u64])
     ensures words { words.new ≡ file_buffer bytes.now (length words.old) }
 {
     let fields = files::read(bytes, words);
-    four::put_fields(answer, fields);
+    four::put_count(answer, fields);
 }
 
 // Folds a string's payload into the front of a work buffer.
@@ -65,7 +65,7 @@ pub fn shigthapul_fold(payload: &[u8], work: &mut [u8], answer: &mut [u64])
     ensures work { work.new ≡ fold_buffer payload.now work.old }
 {
     let folded = text::fold(payload, work);
-    four::put_folded(answer, folded);
+    four::put_count(answer, folded);
 }
 
 // Says where the text of a string is, and how long.
@@ -93,7 +93,7 @@ pub fn shigthapul_check(pool: &[u32], root: usize, answer: &mut [u64])
         return;
     }
     let checked = trees::check_large(pool, root);
-    four_trees::put_checked(answer, checked);
+    four::put_checked(answer, checked);
 }
 
 // The same of the front of a pool, with little stack whatever the pool.
@@ -101,7 +101,7 @@ pub fn shigthapul_check_small(pool: &[u32], root: usize, answer: &mut [u64])
     ensures { Checks (front pool.now) root answer.old answer.new }
 {
     let checked = trees::check_small(pool, root);
-    four_trees::put_checked(answer, checked);
+    four::put_checked(answer, checked);
 }
 
 // Writes the tree at a root as token words, and the places of their payloads. It calls itself as the check does.
@@ -124,7 +124,7 @@ pub fn shigthapul_write(
         return;
     }
     let wrote = writer::write_large(pool, root, words, places);
-    four_trees::put_wrote(answer, wrote);
+    four::put_count(answer, wrote);
 }
 
 // The same of the front of a pool, with little stack whatever the pool.
@@ -138,7 +138,7 @@ pub fn shigthapul_write_small(
     ensures { Puts (front pool.now) root words.old places.old answer.old words.new places.new answer.new }
 {
     let wrote = writer::write_small(pool, root, words, places);
-    four_trees::put_wrote(answer, wrote);
+    four::put_count(answer, wrote);
 }
 
 // Writes the tree at a root as JSON, its payloads from the fields of a file. It calls itself as the check does.
@@ -155,7 +155,7 @@ pub fn shigthapul_json(pool: &[u32], root: usize, file: &[u8], text: &mut [u8], 
         return;
     }
     let told = json_writer::write_large(pool, root, file, text);
-    four_json::put_told(answer, told);
+    four::put_count(answer, told);
 }
 
 // The same of the front of a pool, with little stack whatever the pool.
@@ -169,5 +169,5 @@ pub fn shigthapul_json_small(
     ensures { Tells (front pool.now) root file.now text.old answer.old text.new answer.new }
 {
     let told = json_writer::write_small(pool, root, file, text);
-    four_json::put_told(answer, told);
+    four::put_count(answer, told);
 }

@@ -1,4 +1,3 @@
--- The laws that the functions' proofs share, and what is proved of the contracts.
-mod Arms
-mod Wholes
+-- What the tags tell, and what is proved of the contracts.
+pub mod Tags
 pub mod Determined

@@ -1,9 +1,10 @@
 -- One field of a token file: a tag, a length and a payload, and the token word that it gives.
-use Rattle.std.specs.Prelude.{ℕ, ◌+◌, ◌*◌, Bool, true, cond, ◌&&◌, ◌||◌, List, [], ◌∷◌, eqb, leb, length, take, get_or}
+use Rattle.std.specs.Prelude.{ℕ, ◌+◌, ◌*◌, Bool, true, cond, ◌&&◌, ◌||◌, List, [], ◌∷◌, Result, Ok, Err, eqb, leb, length, take, get_or}
 use Rattle.grammar.specs.Words.{Operator, Keyword, Integer, Str, Float, Char, Identifier, class}
 use Rattle.unicode_text.specs.Unicode.{scalar, well_formed}
+use Rattle.refusals.specs.declared.Reason.{Reason}
+use Rattle.refusals.specs.declared.Reason.TheVariants.{BadField, NotUnicode}
 use Rattle.fields.specs.declared.Field.{Field}
-use Rattle.fields.specs.declared.Field.TheVariants.{Good, Refused}
 
 -- The last class, Unknown.
 abbrev pub Unknown : ℕ
@@ -12,14 +13,6 @@ Unknown = 10
 -- How many bytes the tag and the length of a field take.
 abbrev pub head : ℕ
 head = 3
-
--- The refusal of a field that is cut short, has a tag above the classes, or a wrong length.
-abbrev pub BadField : ℕ
-BadField = 5
-
--- The refusal of a payload that is not Unicode.
-abbrev pub NotUnicode : ℕ
-NotUnicode = 33
 
 -- Whether the payload of a tag is a code: that of an operator or a keyword.
 abbrev pub coded : (tag : ℕ) → Bool
@@ -51,18 +44,22 @@ unicode tag payload = cond (eqb tag (class Char)) (scalar (number 0 payload)) (c
 abbrev pub word : (tag : ℕ) (payload : List ℕ) → ℕ
 word tag payload = tag * 256 + cond (coded tag) (get_or payload 0 0) 0
 
--- The field of a tag and its payload: its word and how many bytes it takes, or the number of its refusal.
-unfoldable pub whole : (tag : ℕ) (payload : List ℕ) → Field
+-- A good field: its word, and how many bytes it takes.
+abbrev pub good : (word width : ℕ) → Field
+good word width = record { word = word; width = width }
+
+-- The field of a tag and its payload, or why it is refused: a payload of a wrong length or a tag above the classes, then one that is not Unicode.
+unfoldable pub whole : (tag : ℕ) (payload : List ℕ) → Result Field Reason
 whole tag payload =
     cond (allowed tag (length payload))
-    (cond (unicode tag payload) (Good (word tag payload) (head + length payload)) (Refused NotUnicode))
-    (Refused BadField)
+    (cond (unicode tag payload) (Ok (good (word tag payload) (head + length payload))) (Err NotUnicode))
+    (Err BadField)
 
 -- The first field: a tag, a length with its high byte first, and a payload of that length.
-unfoldable pub first : List ℕ → Field
-first [] = Refused BadField
-first (tag ∷ []) = Refused BadField
-first (tag ∷ high ∷ []) = Refused BadField
+unfoldable pub first : List ℕ → Result Field Reason
+first [] = Err BadField
+first (tag ∷ []) = Err BadField
+first (tag ∷ high ∷ []) = Err BadField
 first (tag ∷ high ∷ low ∷ rest) =
     let size = high * 256 + low in
-    cond (leb size (length rest)) (whole tag (take size rest)) (Refused BadField)
+    cond (leb size (length rest)) (whole tag (take size rest)) (Err BadField)

@@ -1,2 +1,3 @@
 -- The definitions that the contracts of `fields` cite.
+pub mod Classes
 pub mod Field

@@ -4,8 +4,9 @@ use mathlib.Core.List.{List, [], ◌∷◌}
 use Prim.Native.Nat.{ℕ, zero, suc, ◌≤◌}
 use native.Mathlib.Omega.{arith}
 use lib.ListN.{length, drop, length-drop}
+use Rattle.std.specs.Prelude.{Result, Ok, Err}
+use Rattle.refusals.specs.declared.Reason.{Reason}
 use Rattle.fields.specs.declared.Field.{Field}
-use Rattle.fields.specs.declared.Field.TheVariants.{Good, Refused}
 use Rattle.fields.specs.Field.{first}
 use Rattle.files.specs.File.{fields}
 use Rattle.files.proofs.Good.{taken}
@@ -19,11 +20,11 @@ same_fields (suc b) b' number [] h h' = rw (none_left (suc b) number, none_left 
 same_fields (suc b) zero number (x ∷ bytes) h h' = absurd (omega arith)
 same_fields (suc b) (suc b') number (x ∷ bytes) h h' = go (first (x ∷ bytes)) refl (same_fields b b' (suc number))
   where
-    go : (f : Field) → first (x ∷ bytes) ≡ f
+    go : (r : Result Field Reason) → first (x ∷ bytes) ≡ r
         → ((rest : List ℕ) → length rest ≤ b → length rest ≤ b' → fields b (suc number) rest ≡ fields b' (suc number) rest)
         → fields (suc b) number (x ∷ bytes) ≡ fields (suc b') number (x ∷ bytes)
-    go (Good w width) e same =
+    go (Ok f) e same =
         let some = (taken (x ∷ bytes) e).some in
-        let rest = same (drop width (x ∷ bytes)) (simp length-drop (omega arith)) (simp length-drop (omega arith)) in
+        let rest = same (drop f.width (x ∷ bytes)) (simp length-drop (omega arith)) (simp length-drop (omega arith)) in
         rw (good_next b number (x ∷ bytes) (omega arith) e, good_next b' number (x ∷ bytes) (omega arith) e, rest)
-    go (Refused n) e same = rw (bad_next b number (x ∷ bytes) (omega arith) e, bad_next b' number (x ∷ bytes) (omega arith) e)
+    go (Err r) e same = rw (bad_next b number (x ∷ bytes) (omega arith) e, bad_next b' number (x ∷ bytes) (omega arith) e)

@@ -6,4 +6,3 @@ pub mod Bound
 pub mod Payloads
 pub mod Determined
 pub mod Examples
-mod Cleared

@@ -7,32 +7,27 @@ use native.Mathlib.Omega.{arith}
 use borrow.Author.Tests.{leb-true}
 use lib.Dec.{leb}
 use lib.ListN.{length}
+use Rattle.std.specs.Prelude.{Result, Ok, Err}
+use Rattle.refusals.specs.declared.Reason.{Reason}
+use Rattle.refusals.specs.declared.Reason.TheVariants.{BadField, NotUnicode}
+use Rattle.refusals.specs.Reasons.{number as number_of}
 use Rattle.fields.specs.declared.Field.{Field}
-use Rattle.fields.specs.declared.Field.TheVariants as field
-use Rattle.fields.specs.Field.{BadField, NotUnicode, first}
-use Rattle.files.specs.declared.Fields.TheVariants.{Count, Refused}
+use Rattle.fields.specs.Field.{first}
 use Rattle.files.specs.File.{Content, read, refused, NoRoom, TooLong, most, before, fields}
-use Rattle.files.specs.Entry.{within, content, answer, answered}
+use Rattle.files.specs.Entry.{within, content, answered}
 use Rattle.files.proofs.Good.{bad_field as bad}
 use Rattle.files.proofs.Pass.{good_next, bad_next}
 
 -- the refusals by number and place
 pub data Refusal : (number place : ℕ) → Type 0 where
   too_long : Refusal TooLong 0
-  bad_field : (number : ℕ) → Refusal BadField number
-  not_unicode : (number : ℕ) → Refusal NotUnicode number
+  bad_field : (number : ℕ) → Refusal (number_of BadField) number
+  not_unicode : (number : ℕ) → Refusal (number_of NotUnicode) number
   no_room : Refusal NoRoom 0
 
--- each is answered as one
-pub as_refused : {number place : ℕ} → Refusal number place → answer number place ≡ Refused number place
-as_refused too_long = refl
-as_refused (bad_field number) = refl
-as_refused (not_unicode number) = refl
-as_refused no_room = refl
-
 -- a bad field's is one of two
-pub refusal : (part : List ℕ) {n : ℕ} → first part ≡ field.Refused n → (number : ℕ) → Refusal n number
-refusal part e number = bad part (λ n. Refusal n number) (bad_field number) (not_unicode number) e
+pub refusal : (part : List ℕ) {r : Reason} → first part ≡ Err r → (number : ℕ) → Refusal (number_of r) number
+refusal part e number = bad part (λ r. Refusal (number_of r) number) (bad_field number) (not_unicode number) e
 
 -- that words meet a condition, and a refusal is one of them
 abbrev Among : (List ℕ → Type 0) → Content → Type 0
@@ -54,10 +49,10 @@ fields_among zero number bytes = tt
 fields_among (suc bound) number [] = tt
 fields_among (suc bound) number (b ∷ bytes) = go (first (b ∷ bytes)) refl (fields_among bound (suc number))
   where
-    go : (f : Field) → first (b ∷ bytes) ≡ f → ((rest : List ℕ) → Among Any (fields bound (suc number) rest))
+    go : (r : Result Field Reason) → first (b ∷ bytes) ≡ r → ((rest : List ℕ) → Among Any (fields bound (suc number) rest))
         → Among Any (fields (suc bound) number (b ∷ bytes))
-    go (field.Good w width) e k = rw (good_next bound number (b ∷ bytes) (omega arith) e) (before_among w _ (k _))
-    go (field.Refused n) e k = rw (bad_next bound number (b ∷ bytes) (omega arith) e) (refusal (b ∷ bytes) e number)
+    go (Ok f) e k = rw (good_next bound number (b ∷ bytes) (omega arith) e) (before_among f.word _ (k _))
+    go (Err r) e k = rw (bad_next bound number (b ∷ bytes) (omega arith) e) (refusal (b ∷ bytes) e number)
 
 -- words that a buffer has room for
 abbrev Fit : (room : ℕ) → List ℕ → Type 0
@@ -88,14 +83,13 @@ pub record Accepted (bytes : List ℕ) (room count : ℕ) : Type 0 where
   pub counted : length words ≡ count
   pub fit : count ≤ room
 
-pub accepted : (bytes : List ℕ) (room : ℕ) {count : ℕ} → answered (content bytes room) ≡ answer 0 count → Accepted bytes room count
+pub accepted : (bytes : List ℕ) (room : ℕ) {count : ℕ} → answered (content bytes room) ≡ Ok count → Accepted bytes room count
 accepted bytes room {count} e = go (content bytes room) refl (content_among bytes room) e
   where
-    go : (c : Content) → content bytes room ≡ c → Among (Fit room) c → answered c ≡ Count count → Accepted bytes room count
+    go : (c : Content) → content bytes room ≡ c → Among (Fit room) c → answered c ≡ Ok count → Accepted bytes room count
     go (read words) q fit f =
         let counted : length words ≡ count = cc in
         record { words = words; given = q; counted = counted; fit = omega arith }
     go (refused number place) q r f =
-        let s = as_refused r in
         let z : ◌≡◌ {A = ℕ} 0 1 = cc in
         absurd (omega arith)

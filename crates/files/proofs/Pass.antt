@@ -6,7 +6,10 @@ use native.Mathlib.Numerals.{add-one}
 use native.Mathlib.Omega.{arith}
 use lib.ListN.{length, drop, set, length-append, length-drop, drop_of_length-le}
 use lib.Seq.{drop-cons, drop-drop, append_snoc, set_at}
-use Rattle.fields.specs.declared.Field.TheVariants.{Good, Refused}
+use Rattle.std.specs.Prelude.{Ok, Err}
+use Rattle.refusals.specs.declared.Reason.{Reason}
+use Rattle.refusals.specs.Reasons.{number as number_of}
+use Rattle.fields.specs.declared.Field.{Field}
 use Rattle.fields.specs.Field.{first}
 use Rattle.files.specs.File.{Content, read, refused, before, fields}
 use Rattle.files.proofs.Good.{taken}
@@ -33,14 +36,14 @@ none_left zero number = refl
 none_left (suc bound) number = refl
 
 -- behind a good field come those of the bytes behind it
-pub good_next : (bound number : ℕ) (part : List ℕ) {w width : ℕ} → 0 < length part → first part ≡ Good w width
-    → fields (suc bound) number part ≡ before w (fields bound (suc number) (drop width part))
+pub good_next : (bound number : ℕ) (part : List ℕ) {f : Field} → 0 < length part → first part ≡ Ok f
+    → fields (suc bound) number part ≡ before f.word (fields bound (suc number) (drop f.width part))
 unfolding fields
 good_next bound number [] h e = absurd (omega arith)
 good_next bound number (b ∷ part) h e = rw (e, fields)
 
 -- a bad field is refused with its number
-pub bad_next : (bound number : ℕ) (part : List ℕ) {n : ℕ} → 0 < length part → first part ≡ Refused n → fields (suc bound) number part ≡ refused n number
+pub bad_next : (bound number : ℕ) (part : List ℕ) {r : Reason} → 0 < length part → first part ≡ Err r → fields (suc bound) number part ≡ refused (number_of r) number
 unfolding fields
 bad_next bound number [] h e = absurd (omega arith)
 bad_next bound number (b ∷ part) h e = rw (e, fields)
@@ -84,23 +87,23 @@ module _ {bytes buffer words : List ℕ} {at count : ℕ} (pass : Pass bytes buf
     some_left = simp length-drop (omega arith)
 
     -- a bad field stops it
-    pub stopped : {n : ℕ} → first (drop at bytes) ≡ Refused n → fields (length bytes) 0 bytes ≡ refused n count
+    pub stopped : {r : Reason} → first (drop at bytes) ≡ Err r → fields (length bytes) 0 bytes ≡ refused (number_of r) count
     unfolding join
     stopped e = pass.left ∙ rw (bound, bad_next (length bytes - (count + 1)) count (drop at bytes) some_left e)
 
-    module _ {w width : ℕ} (e : first (drop at bytes) ≡ Good w width) where
+    module _ {f : Field} (e : first (drop at bytes) ≡ Ok f) where
       -- a good field takes the pass on, and ends within the file
-      pub on : (0 < width) × (at + width ≤ length bytes)
+      pub on : (0 < f.width) × (at + f.width ≤ length bytes)
       on =
           let t = taken (drop at bytes) e in
-          let held : width ≤ length bytes - at = simp length-drop at t.held in
+          let held : f.width ≤ length bytes - at = simp length-drop at t.held in
           (t.some, omega arith)
 
       -- its word comes behind those before it
-      pub turned : (words' : List ℕ) → length words' ≡ length buffer → (count < length buffer → words' ≡ set words count w)
-          → Pass bytes buffer words' (at + width) (count + 1)
+      pub turned : (words' : List ℕ) → length words' ≡ length buffer → (count < length buffer → words' ≡ set words count f.word)
+          → Pass bytes buffer words' (at + f.width) (count + 1)
       turned words' same stored = record {
-        done = pass.done ++ (w ∷ []);
+        done = pass.done ++ (f.word ∷ []);
         counted = simp length-append (omega (arith, pass.counted));
         left = pass.left ∙ rw (bound, good_next (length bytes - (count + 1)) count (drop at bytes) some_left e, join_more, drop-drop, add-one count);
         inside = on.1;

@@ -6,8 +6,10 @@ use Prim.Native.Nat.{ℕ, zero, suc, ◌≤◌}
 use native.Mathlib.Omega.{arith}
 use lib.Dec.{leb}
 use lib.ListN.{length, drop, length-drop}
+use Rattle.std.specs.Prelude.{Result, Ok, Err}
+use Rattle.refusals.specs.declared.Reason.{Reason}
+use Rattle.refusals.specs.Reasons.{number as number_of}
 use Rattle.fields.specs.declared.Field.{Field}
-use Rattle.fields.specs.declared.Field.TheVariants as field
 use Rattle.fields.specs.Field.{first}
 use Rattle.files.specs.File.{Content, read, refused, NoRoom, TooLong, most, before, fields}
 use Rattle.files.specs.Entry.{within, content}
@@ -17,7 +19,7 @@ use Rattle.files.proofs.Pass.{good_next, bad_next, none_left}
 use Rattle.files.proofs.Outcomes.{accepted}
 
 -- a good field holds Unicode, and the file goes on behind it
-one_more : {part words : List ℕ} {w width : ℕ} → GoodField part w width → Holds (drop width part) words → Holds part (w ∷ words)
+one_more : {part words : List ℕ} {f : Field} → GoodField part f → Holds (drop f.width part) words → Holds part (f.word ∷ words)
 one_more g k = rw (g.split, g.told.its_word) (field g.tag g.high g.low g.payload g.rest _ g.long g.told.right g.told.text (rw (behind g) at k))
 
 -- words behind a first one
@@ -38,15 +40,15 @@ all_fields zero number (b ∷ bytes) words h e = absurd (omega arith)
 all_fields (suc bound) number [] words h e = no_fields (suc bound) number words e
 all_fields (suc bound) number (b ∷ bytes) words h e = go (first (b ∷ bytes)) refl (all_fields bound (suc number))
   where
-    go : (f : Field) → first (b ∷ bytes) ≡ f
+    go : (r : Result Field Reason) → first (b ∷ bytes) ≡ r
         → ((rest ws : List ℕ) → length rest ≤ bound → fields bound (suc number) rest ≡ read ws → Holds rest ws)
         → Holds (b ∷ bytes) words
-    go (field.Good w width) f rec =
+    go (Ok g) f rec =
         let some = (taken (b ∷ bytes) f).some in
-        let r = before_read w _ (sym (good_next bound number (b ∷ bytes) (omega arith) f) ∙ e) in
-        rw r.2 (one_more (good_field (b ∷ bytes) f) (rec (drop width (b ∷ bytes)) r.0 (simp length-drop (omega arith)) r.1))
-    go (field.Refused n) f rec =
-        let r : refused n number ≡ read words = sym (bad_next bound number (b ∷ bytes) (omega arith) f) ∙ e in
+        let r = before_read g.word _ (sym (good_next bound number (b ∷ bytes) (omega arith) f) ∙ e) in
+        rw r.2 (one_more (good_field (b ∷ bytes) f) (rec (drop g.width (b ∷ bytes)) r.0 (simp length-drop (omega arith)) r.1))
+    go (Err reason) f rec =
+        let r : refused (number_of reason) number ≡ read words = sym (bad_next bound number (b ∷ bytes) (omega arith) f) ∙ e in
         let z : ◌≡◌ {A = ℕ} 0 1 = cc in
         absurd (omega arith)
 

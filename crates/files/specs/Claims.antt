@@ -1,7 +1,7 @@
 -- What is claimed of a file that is accepted.
-use Rattle.std.specs.Prelude.{ℕ, ◌+◌, ◌*◌, ◌-◌, ◌≡◌, true, List, [], ◌∷◌, ◌++◌, length, replicate}
+use Rattle.std.specs.Prelude.{ℕ, ◌+◌, ◌*◌, ◌-◌, ◌≡◌, true, List, [], ◌∷◌, ◌++◌, Ok, length, replicate}
 use Rattle.fields.specs.Field.{allowed, unicode, word}
-use Rattle.files.specs.Entry.{answer, file_answer, file_buffer}
+use Rattle.files.specs.Entry.{file_answer, file_buffer}
 
 -- Fields, one behind another and nothing else, and their words: each has a length that goes with its tag, and holds Unicode as far as that asks for it.
 pub data Holds : (bytes words : List ℕ) → Type 0 where
@@ -19,4 +19,4 @@ pub record Unicodes (bytes : List ℕ) (room count : ℕ) : Type 0 where
 
 -- A file that is accepted is such fields.
 abbrev pub UnicodePayloads : Type 0
-UnicodePayloads = (bytes : List ℕ) (room count : ℕ) → file_answer bytes room ≡ answer 0 count → Unicodes bytes room count
+UnicodePayloads = (bytes : List ℕ) (room count : ℕ) → file_answer bytes room ≡ Ok count → Unicodes bytes room count

@@ -1,7 +1,6 @@
 -- Reading a file into a buffer: the answer, and every word of the buffer.
-use Rattle.std.specs.Prelude.{ℕ, zero, suc, ◌-◌, cond, List, ◌++◌, leb, length, replicate}
-use Rattle.files.specs.declared.Fields.{Fields}
-use Rattle.files.specs.declared.Fields.TheVariants.{Count, Refused}
+use Rattle.std.specs.Prelude.{ℕ, ◌-◌, cond, List, ◌++◌, Result, Ok, Err, leb, length, replicate}
+use Rattle.refusals.specs.Refusal.{Numbered, refusal}
 use Rattle.files.specs.File.{Content, read, refused, NoRoom, TooLong, most, fields}
 
 -- The words in a buffer of so many, where it has room for them.
@@ -14,15 +13,10 @@ unfoldable pub content : List ℕ → (room : ℕ) → Content
 content bytes room =
     cond (leb (length bytes) most) (within room (fields (length bytes) 0 bytes)) (refused TooLong 0)
 
--- The case for a number and its value: 0 and the field count, or a refusal's number and its place.
-abbrev pub answer : ℕ → ℕ → Fields
-answer zero count = Count count
-answer (suc n) place = Refused (suc n) place
-
--- What reading answers.
-abbrev pub answered : Content → Fields
-answered (read words) = answer 0 (length words)
-answered (refused number place) = answer number place
+-- What reading answers: the field count, or a refusal's number and its place.
+abbrev pub answered : Content → Result ℕ Numbered
+answered (read words) = Ok (length words)
+answered (refused number place) = Err (refusal number place)
 
 -- Every word of the buffer: the words of the fields in front and zeros behind, or all zeros after a refusal.
 abbrev pub laid : (room : ℕ) → Content → List ℕ
@@ -30,7 +24,7 @@ laid room (read words) = words ++ replicate (room - length words) 0
 laid room (refused number place) = replicate room 0
 
 -- The answer for a file and a buffer of so many words.
-abbrev pub file_answer : List ℕ → (room : ℕ) → Fields
+abbrev pub file_answer : List ℕ → (room : ℕ) → Result ℕ Numbered
 file_answer bytes room = answered (content bytes room)
 
 -- Every word of a buffer of so many words after the file was read into it.

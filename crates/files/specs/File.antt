@@ -1,6 +1,7 @@
 -- Token files: fields one behind another, and the token words that they give.
-use Rattle.std.specs.Prelude.{ℕ, zero, suc, List, [], ◌∷◌, drop}
-use Rattle.fields.specs.declared.Field.TheVariants.{Good, Refused}
+use Rattle.std.specs.Prelude.{ℕ, zero, suc, List, [], ◌∷◌, Ok, Err, drop}
+use Rattle.refusals.specs.declared.Reason.TheVariants as reason
+use Rattle.refusals.specs.Reasons.{number as number_of}
 use Rattle.fields.specs.Field.{first}
 
 -- What a file holds: the words of its fields in order, or a refusal's number and place.
@@ -10,11 +11,11 @@ pub data Content : Type 0 where
 
 -- The refusal of a buffer with too few words.
 abbrev pub NoRoom : ℕ
-NoRoom = 3
+NoRoom = number_of reason.NoRoom
 
 -- The refusal of a file with too many bytes.
 abbrev pub TooLong : ℕ
-TooLong = 6
+TooLong = number_of reason.TooLong
 
 -- The most bytes of a file.
 abbrev pub most : ℕ
@@ -30,4 +31,4 @@ unfoldable pub fields : (bound number : ℕ) → List ℕ → Content
 fields zero number bytes = read []
 fields (suc bound) number [] = read []
 fields (suc bound) number (b ∷ bytes) =
-    elim (first (b ∷ bytes)) [ Good w width ↦ before w (fields bound (suc number) (drop width (b ∷ bytes))) | Refused n ↦ refused n number ]
+    elim (first (b ∷ bytes)) [ Ok field ↦ before field.word (fields bound (suc number) (drop field.width (b ∷ bytes))) | Err r ↦ refused (number_of r) number ]

@@ -2,29 +2,39 @@
 #![tactic(auto)]
 
 ghost use Rattle.std.specs.Prelude.{◌≡◌, [], ◌∷◌};
+ghost use Rattle.refusals.specs.Refusal.{counted};
 ghost use Rattle.answer.specs.Answer.{numbers};
-ghost use Rattle.four.specs.Answers.{over, file_words, fold_words, text_words};
+ghost use Rattle.four.specs.Answers.{over, checked_words, text_words};
 
-use answer::Answer;
-use files::Fields;
-use text::Folded;
+use answer::{Accepted, Answer};
+use refusals::Refusal;
 
 // Writes four words into the front of a slice, as far as it goes.
 pub fn put(words: &mut [u64], first: u32, second: usize, third: usize, fourth: usize)
     ensures { words.new ≡ over (first ∷ second ∷ third ∷ fourth ∷ []) words.old }
 {
-    let room = words.len();
-    if 0 < room {
-        words[0] = first as u64;
+    let numbers = [first as u64, second as u64, third as u64, fourth as u64];
+    let room = words.len().min(numbers.len());
+    words[..room].copy_from_slice(&numbers[..room]);
+}
+
+// Writes an answer that counts something: the fields of a file, the bytes of a text, the tokens of a tree.
+pub fn put_count(words: &mut [u64], outcome: Result<usize, Refusal>)
+    ensures { words.new ≡ over (counted outcome) words.old }
+{
+    match outcome {
+        Ok(count) => put(words, 0, count, 0, 0),
+        Err(refusal) => put(words, refusal.number(), refusal.place(), 0, 0),
     }
-    if 1 < room {
-        words[1] = second as u64;
-    }
-    if 2 < room {
-        words[2] = third as u64;
-    }
-    if 3 < room {
-        words[3] = fourth as u64;
+}
+
+// Writes what a check answers.
+pub fn put_checked(words: &mut [u64], checked: Result<(), Refusal>)
+    ensures { words.new ≡ over (checked_words checked) words.old }
+{
+    match checked {
+        Ok(()) => put(words, 0, 0, 0, 0),
+        Err(refusal) => put(words, refusal.number(), refusal.place(), 0, 0),
     }
 }
 
@@ -33,40 +43,8 @@ pub fn put_answer(words: &mut [u64], outcome: Answer)
     ensures { words.new ≡ over (numbers outcome) words.old }
 {
     match outcome {
-        Answer::Accepted(root, rows, place) => {
-            put(words, 0, root as usize, rows, place);
-        }
-        Answer::Refused(number, place) => {
-            put(words, number, place, 0, 0);
-        }
-    }
-}
-
-// Writes what reading a file answers.
-pub fn put_fields(words: &mut [u64], fields: Fields)
-    ensures { words.new ≡ over (file_words fields) words.old }
-{
-    match fields {
-        Fields::Count(count) => {
-            put(words, 0, count, 0, 0);
-        }
-        Fields::Refused(number, place) => {
-            put(words, number, place, 0, 0);
-        }
-    }
-}
-
-// Writes what folding answers.
-pub fn put_folded(words: &mut [u64], folded: Folded)
-    ensures { words.new ≡ over (fold_words folded) words.old }
-{
-    match folded {
-        Folded::Length(length) => {
-            put(words, 0, length, 0, 0);
-        }
-        Folded::Refused(number, place) => {
-            put(words, number, place, 0, 0);
-        }
+        Ok(Accepted { root, rows, place }) => put(words, 0, root as usize, rows, place),
+        Err(refusal) => put(words, refusal.number(), refusal.place(), 0, 0),
     }
 }
 

@@ -18,6 +18,7 @@ pub fn read_full<R: Read>(from: &mut R, buf: &mut [u8]) -> io::Result<usize>
     ensures end { IfOk result (λ n. n < length buf.new → IsAtEnd (R.remaining from.new)) }
 {
     let mut done = 0;
+    // A turn goes on by as many bytes as the stream gives.
     while done < buf.len() {
         let n = from.read(&mut buf[done..])?;
         if n == 0 {

@@ -1,3 +1,2 @@
--- What is proved of the contract, and what the functions' proofs share.
-mod Names
+-- What is proved of the contract.
 pub mod Determined

@@ -1,74 +1,79 @@
 // The names of the kinds, put as JSON strings.
 #![tactic(auto)]
 
-ghost use Rattle.std.specs.Prelude.{[], ◌-◌, ◌≤◌, ◌<◌, get_or};
+ghost use Rattle.std.specs.Prelude.{◌≡◌, [], ◌-◌, ◌≤◌, ◌<◌, get_or};
 ghost use Rattle.json_text.specs.Values.{quoted};
 ghost use Rattle.json_text.specs.Json.{expression_names, statement_names, name};
 ghost use Rattle.json_values.specs.Puts.{Puts};
 
-use json_values::put_quoted;
+use json_values::Out;
+use refusals::Reason;
 
 // The name of a kind below 32.
-fn expression_name(out: &mut [u8], at: usize, kind: u32) -> usize
+#[tactic(auto, unfolding(json_text::specs::Json::expression_names))]
+fn expression_name(kind: u32) -> &'static [u8]
     requires { kind < 32 }
-    ensures { Puts (quoted (get_or expression_names kind [])) out.old at result out.new }
+    ensures { result.now ≡ get_or expression_names kind [] }
 {
     match kind {
-        0 => put_quoted(out, at, b""),
-        1 => put_quoted(out, at, b"none"),
-        2 => put_quoted(out, at, b"identifier"),
-        3 => put_quoted(out, at, b"int"),
-        4 => put_quoted(out, at, b"float"),
-        5 => put_quoted(out, at, b"char"),
-        6 => put_quoted(out, at, b"string"),
-        7 => put_quoted(out, at, b"bool"),
-        8 => put_quoted(out, at, b"array"),
-        9 => put_quoted(out, at, b"hash"),
-        10 => put_quoted(out, at, b"index"),
-        11 => put_quoted(out, at, b"call"),
-        12 => put_quoted(out, at, b"infix"),
-        13 => put_quoted(out, at, b"prefix"),
-        14 => put_quoted(out, at, b"suffix"),
-        15 => put_quoted(out, at, b"lambda"),
-        16 => put_quoted(out, at, b"shell"),
-        17 => put_quoted(out, at, b"attribute"),
-        18 => put_quoted(out, at, b"name"),
-        19 => put_quoted(out, at, b"pair"),
-        _ => put_quoted(out, at, b""),
+        1 => b"none",
+        2 => b"identifier",
+        3 => b"int",
+        4 => b"float",
+        5 => b"char",
+        6 => b"string",
+        7 => b"bool",
+        8 => b"array",
+        9 => b"hash",
+        10 => b"index",
+        11 => b"call",
+        12 => b"infix",
+        13 => b"prefix",
+        14 => b"suffix",
+        15 => b"lambda",
+        16 => b"shell",
+        17 => b"attribute",
+        18 => b"name",
+        19 => b"pair",
+        _ => b"",
     }
 }
 
 // The name of a kind from 32 on.
-fn statement_name(out: &mut [u8], at: usize, kind: u32) -> usize
+#[tactic(auto, unfolding(json_text::specs::Json::statement_names))]
+fn statement_name(kind: u32) -> &'static [u8]
     requires { 32 ≤ kind }
-    ensures { Puts (quoted (get_or statement_names (kind - 32) [])) out.old at result out.new }
+    ensures { result.now ≡ get_or statement_names (kind - 32) [] }
 {
     match kind {
-        32 => put_quoted(out, at, b"break"),
-        33 => put_quoted(out, at, b"continue"),
-        34 => put_quoted(out, at, b"var"),
-        35 => put_quoted(out, at, b"const"),
-        36 => put_quoted(out, at, b"return"),
-        37 => put_quoted(out, at, b"throw"),
-        38 => put_quoted(out, at, b"expression"),
-        39 => put_quoted(out, at, b"try"),
-        40 => put_quoted(out, at, b"function"),
-        41 => put_quoted(out, at, b"for"),
-        42 => put_quoted(out, at, b"while"),
-        43 => put_quoted(out, at, b"assert"),
-        44 => put_quoted(out, at, b"if"),
-        45 => put_quoted(out, at, b"foreach"),
-        46 => put_quoted(out, at, b"block"),
-        _ => put_quoted(out, at, b""),
+        32 => b"break",
+        33 => b"continue",
+        34 => b"var",
+        35 => b"const",
+        36 => b"return",
+        37 => b"throw",
+        38 => b"expression",
+        39 => b"try",
+        40 => b"function",
+        41 => b"for",
+        42 => b"while",
+        43 => b"assert",
+        44 => b"if",
+        45 => b"foreach",
+        46 => b"block",
+        _ => b"",
     }
 }
 
 // The name of a kind; none for a number that is no kind's.
-pub fn put_name(out: &mut [u8], at: usize, kind: u32) -> usize
-    ensures { Puts (quoted (name kind)) out.old at result out.new }
+#[tactic(auto, unfolding(json_text::specs::Json::name))]
+pub fn put_name(out: &mut Out, kind: u32) -> Result<(), Reason>
+    ensures { Puts (quoted (name kind)) out.old out.new result }
 {
-    if kind < 32 {
-        return expression_name(out, at, kind);
-    }
-    statement_name(out, at, kind)
+    let name = if kind < 32 {
+        expression_name(kind)
+    } else {
+        statement_name(kind)
+    };
+    out.put_quoted(name)
 }

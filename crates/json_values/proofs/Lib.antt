@@ -2,6 +2,8 @@
 pub mod Puts
 mod Plain
 mod Turns
+mod Runs
+mod Strings
 mod Read
 mod Folding
 pub mod Valued

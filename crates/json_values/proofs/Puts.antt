@@ -1,107 +1,114 @@
--- Putting: one text behind another, how far the place goes, and what the whole leaves.
+-- Putting: one text behind another as far as there is room, and what the whole leaves.
 use mathlib.Core.Path.{◌≡◌, refl, sym, ap, subst, ◌∙◌}
-use mathlib.Core.Bool.{Bool, true, false, cond}
 use mathlib.Core.List.{List, [], ◌∷◌, ◌++◌}
 use Prim.Native.Nat.{ℕ, zero, suc, ◌+◌, ◌-◌, ◌≤◌, ◌<◌}
-use native.Mathlib.Decide.{dec_lt}
 use native.Mathlib.Omega.{arith}
-use borrow.Author.Tests.{lt-ltb, le-ltb}
-use lib.Dec.{ltb}
-use lib.ListN.{length, drop, set, replicate, length-set, length-replicate}
+use lib.ListN.{length, drop, set, replicate, length-append, length-replicate}
 use lib.Seq.{sets, sets-eq}
-use Rattle.json_values.specs.Puts.{State, put, after, Puts}
+use borrow.Rule.Slice.PartMut.{put_mid}
+use Rattle.std.proofs.Common.{take-append-drop}
+use Rattle.std.proofs.lemmas.Slice.{take-put_mid, drop-put_mid}
+use Rattle.std.specs.Prelude.{Result, Ok, Err, IsErr, IsErrAnd, ⊤}
+use Rattle.std.proofs.lemmas.List.{set_past}
+use Rattle.std.proofs.Math.Seq.{length-sets}
+use Rattle.refusals.specs.declared.Reason.{Reason}
+use Rattle.refusals.specs.declared.Reason.TheVariants.{TooShort}
+use Rattle.json_values.specs.declared.output.Out.{Out}
+use Rattle.json_values.specs.Puts.{room, Told, whole, cut, Puts}
 
--- A byte where there is room for it, and where there is none.
-put_room : (b at : ℕ) (out : List ℕ) → at < length out → put b (out, at) ≡ (set out at b, suc at)
-unfolding put
-put_room b at out h = rw (lt-ltb at (length out) h)
+-- Bytes that are stored one after another: those of one text and of another, and those for which there is no place.
+sets_append : (l : List ℕ) (i : ℕ) (a b : List ℕ) → sets l i (a ++ b) ≡ sets (sets l i a) (i + length a) b
+sets_append l i [] b = let e : i ≡ i + 0 = omega arith in ap (λ k. sets l k b) e
+sets_append l i (x ∷ a) b = let e : suc i + length a ≡ i + length (x ∷ a) = omega arith in sets_append (set l i x) (suc i) a b ∙ ap (λ k. sets (sets (set l i x) (suc i) a) k b) e
 
-put_full : (b at : ℕ) (out : List ℕ) → length out ≤ at → put b (out, at) ≡ (out, suc (length out))
-unfolding put
-put_full b at out h = rw (le-ltb at (length out) h)
+sets_past : (l : List ℕ) (i : ℕ) (a : List ℕ) → length l ≤ i → sets l i a ≡ l
+sets_past l i [] h = refl
+sets_past l i (x ∷ a) h = rw (set_past l i x h) (sets_past l (suc i) a (omega arith))
 
-pub puts_room : (b at : ℕ) (out : List ℕ) → at < length out → Puts (b ∷ []) out at (suc at) (set out at b)
-unfolding after
-puts_room b at out h = record { met = sym (put_room b at out h) }
+-- A part of a slice that becomes such bytes.
+stored : (xs ys : List ℕ) (a k : ℕ) → k ≡ length ys → a + length ys ≤ length xs → put_mid a k xs ys ≡ sets xs a ys
+stored xs ys a k e h =
+    let front = take-put_mid a k xs ys (a + k) (omega arith) (omega arith) in
+    let rest = drop-put_mid a k xs ys (a + k) (omega arith) (omega arith) (sym e) in
+    sym (take-append-drop (a + k) (put_mid a k xs ys)) ∙ rw (front, rest, e) (sym (sets-eq ys xs a h))
 
-pub puts_full : (b at : ℕ) (out : List ℕ) → length out ≤ at → Puts (b ∷ []) out at (suc (length out)) out
-unfolding after
-puts_full b at out h = record { met = sym (put_full b at out h) }
+-- Where all of a text was put there was room, and elsewhere there was none.
+pub fits : {t : List ℕ} {k : ℕ} {u : ⊤} → Told t k (Ok u) → length t ≤ k
+fits (whole h) = h
+
+pub lacks : {t : List ℕ} {k : ℕ} {e : Reason} → Told t k (Err e) → k < length t
+lacks (cut h) = h
+
+-- The only error.
+pub why : {t : List ℕ} {k : ℕ} {e : Reason} → Told t k (Err e) → e ≡ TooShort
+why (cut h) = refl
+
+-- Nothing.
+pub puts_none : {o : Out} → Puts [] o o (Ok tt)
+puts_none = record { same_slice = refl; bytes = refl; place = omega arith; told = whole (omega arith) }
+
+-- A part of the slice that became the text.
+pub puts_part : {t : List ℕ} {o p : Out} (part : List ℕ) (k : ℕ) → p.bytes.ghost_name ≡ o.bytes.ghost_name → p.bytes.now ≡ put_mid o.at k o.bytes.now part → p.at ≡ o.at + length t
+    → part ≡ t → k ≡ length t → o.at + length t ≤ length o.bytes.now → Puts t o p (Ok tt)
+puts_part {t} {o} part k same e at is l h = record {
+  same_slice = same;
+  bytes = e ∙ ap (put_mid o.at k o.bytes.now) is ∙ stored o.bytes.now t o.at k l h;
+  place = omega arith;
+  told = whole (omega arith);
+}
 
 -- One text behind another.
-pub after_append : (s : State) (a b : List ℕ) → after s (a ++ b) ≡ after (after s a) b
-unfolding after
-after_append s [] b = refl
-after_append s (x ∷ a) b = after_append (put x s) a b
-
-pub puts_append : {a b out out₁ out₂ : List ℕ} {at at₁ at₂ : ℕ} → Puts a out at at₁ out₁ → Puts b out₁ at₁ at₂ out₂ → Puts (a ++ b) out at at₂ out₂
-puts_append {a} {b} {out} {at = at} p q = record { met = q.met ∙ ap (λ (s : State). after s b) p.met ∙ sym (after_append (out, at) a b) }
-
-pub puts_none : {out : List ℕ} {at : ℕ} → Puts [] out at at out
-unfolding after
-puts_none = record { met = refl }
-
--- What is put says the place and the slice.
-pub one_puts : {t o l l' : List ℕ} {a r r' : ℕ} → Puts t o a r l → Puts t o a r' l' → (r ≡ r') × (l ≡ l')
-one_puts p q = let e = p.met ∙ sym q.met in (ap (λ (s : State). s.1) e, ap (λ (s : State). s.0) e)
-
--- The slice keeps its length, and the place stays at most one behind its end.
-put_long : (b : ℕ) (s : State) → length (put b s).0 ≡ length s.0
-unfolding put
-put_long b s = go (ltb s.1 (length s.0))
+pub puts_append : {a b : List ℕ} {o p q : Out} {u : ⊤} {r : Result ⊤ Reason} → Puts a o p (Ok u) → Puts b p q r → Puts (a ++ b) o q r
+puts_append {a} {b} {o} {p} {q} {u} {r} x y =
+    record {
+      same_slice = y.same_slice ∙ x.same_slice;
+      bytes = y.bytes ∙ ap (λ k. sets p.bytes.now k b) next ∙ ap (λ l. sets l (o.at + length a) b) x.bytes ∙ sym (sets_append o.bytes.now o.at a b);
+      place = omega (arith, y.place, next, long, fits x.told, length-append a b);
+      told = go y.told;
+    }
   where
-    go : (t : Bool) → length (cond {A = State} t (set s.0 s.1 b, suc s.1) (s.0, suc (length s.0))).0 ≡ length s.0
-    go true = length-set s.0 s.1 b
-    go false = refl
+    long : length p.bytes.now ≡ length o.bytes.now
+    long = ap length x.bytes ∙ length-sets o.bytes.now o.at a
 
-after_long : (s : State) (t : List ℕ) → length (after s t).0 ≡ length s.0
-unfolding after
-after_long s [] = refl
-after_long s (b ∷ t) = after_long (put b s) t ∙ put_long b s
+    next : p.at ≡ o.at + length a
+    next = omega (arith, x.place, fits x.told)
 
-pub puts_long : {t out out' : List ℕ} {at at' : ℕ} → Puts t out at at' out' → length out' ≡ length out
-puts_long {t} {out} {at = at} p = ap (λ (s : State). length s.0) p.met ∙ after_long (out, at) t
+    go : {s : Result ⊤ Reason} → Told b (room p) s → Told (a ++ b) (room o) s
+    go (whole h) = whole (omega (arith, h, next, long, fits x.told, length-append a b))
+    go (cut h) = cut (omega (arith, h, next, long, fits x.told, length-append a b))
 
-put_near : (b : ℕ) (s : State) → (put b s).1 ≤ suc (length s.0)
-put_near b s = go (dec_lt s.1 (length s.0))
+-- A text for which there is no room, and what would stand behind it.
+pub puts_stop : {a : List ℕ} (b : List ℕ) {o p : Out} {e : Reason} → Puts a o p (Err e) → Puts (a ++ b) o p (Err e)
+puts_stop {a} b {o} {p} {e} x =
+    let l = lacks x.told in
+    let both = length-append a b in
+    record {
+      same_slice = x.same_slice;
+      bytes = x.bytes ∙ sym (sets_past (sets o.bytes.now o.at a) (o.at + length a) b (omega (arith, length-sets o.bytes.now o.at a))) ∙ sym (sets_append o.bytes.now o.at a b);
+      place = omega (arith, x.place);
+      told = go x.told;
+    }
   where
-    go : Dec (s.1 < length s.0) → (put b s).1 ≤ suc (length s.0)
-    go (yes h) = rw (put_room b s.1 s.0 h) (omega arith)
-    go (no h) = rw (put_full b s.1 s.0 (omega arith)) (omega arith)
+    go : {f : Reason} → Told a (room o) (Err f) → Told (a ++ b) (room o) (Err f)
+    go (cut h) = cut (omega (arith, h, length-append a b))
 
-after_near : (s : State) (t : List ℕ) → s.1 ≤ suc (length s.0) → (after s t).1 ≤ suc (length s.0)
-unfolding after
-after_near s [] h = h
-after_near s (b ∷ t) h = rw (put_long b s) at (after_near (put b s) t (rw (put_long b s) (put_near b s)))
-
-pub puts_near : {t out out' : List ℕ} {at at' : ℕ} → Puts t out at at' out' → at ≤ suc (length out) → at' ≤ suc (length out)
-puts_near {t} {out} {at = at} p h = rw (ap (λ (s : State). s.1) p.met) (after_near (out, at) t h)
-
--- A text for which there is room stands at its place, and the place behind it is the next.
-room : (t out : List ℕ) (at : ℕ) → at + length t ≤ length out → after (out, at) t ≡ (sets out at t, at + length t)
-unfolding after
-room [] out at h = let e : at ≡ at + 0 = omega arith in ap (λ (p : ℕ). (out, p)) e
-room (b ∷ t) out at h =
-    let e : suc at + length t ≡ at + length (b ∷ t) = omega arith in
-    rw (put_room b at out (omega arith)) (room t (set out at b) (suc at) (simp length-set (omega arith)) ∙ ap (λ (p : ℕ). (sets (set out at b) (suc at) t, p)) e)
-
--- From behind the end nothing comes back, and a text that is too long gets there.
-behind : (t out : List ℕ) (at : ℕ) → length out < at → length out < (after (out, at) t).1
-unfolding after
-behind [] out at h = h
-behind (b ∷ t) out at h = subst (λ (s : State). length out < (after s t).1) (sym (put_full b at out (omega arith))) (behind t out (suc (length out)) (omega arith))
-
-too_long : (t out : List ℕ) (at : ℕ) → at ≤ length out → length out < at + length t → length out < (after (out, at) t).1
-unfolding after
-too_long [] out at h k = absurd (omega arith)
-too_long (b ∷ t) out at h k = go (dec_lt at (length out)) (too_long t (set out at b) (suc at))
+-- An error that `?` hands on is the one that it is given.
+pub handed_on : {t : List ℕ} {o p : Out} {e : Reason} {r : Result ⊤ Reason} → Puts t o p (Err e) → IsErr r × IsErrAnd r (λ f. f ≡ e) → Puts t o p r
+handed_on {t} {o} {p} {e} {r} x h = subst (λ s. Puts t o p s) (sym (go r h)) x
   where
-    go : Dec (at < length out) → (suc at ≤ length (set out at b) → length (set out at b) < suc at + length t → length (set out at b) < (after (set out at b, suc at) t).1)
-        → length out < (after (put b (out, at)) t).1
-    go (yes l) more =
-        let long = length-set out at b in
-        subst (λ (s : State). length out < (after s t).1) (sym (put_room b at out l)) (rw long at (more (omega arith) (omega arith)))
-    go (no l) more = subst (λ (s : State). length out < (after s t).1) (sym (put_full b at out (omega arith))) (behind t out (suc (length out)) (omega arith))
+    go : (s : Result ⊤ Reason) → IsErr s × IsErrAnd s (λ f. f ≡ e) → s ≡ Err e
+    go (Ok u) g = absurd g.1
+    go (Err f) g = ap Err g.1
+
+-- What is put says the answer, the place and the slice.
+one_told : {t : List ℕ} {k : ℕ} {r s : Result ⊤ Reason} → Told t k r → Told t k s → r ≡ s
+one_told (whole h) (whole g) = refl
+one_told (whole h) (cut g) = absurd (omega arith)
+one_told (cut h) (whole g) = absurd (omega arith)
+one_told (cut h) (cut g) = refl
+
+pub one_puts : {t : List ℕ} {o p q : Out} {r s : Result ⊤ Reason} → Puts t o p r → Puts t o q s → (r ≡ s) × (p.bytes.now ≡ q.bytes.now) × (p.at ≡ q.at)
+one_puts x y = (one_told x.told y.told, x.bytes ∙ sym y.bytes, x.place ∙ sym y.place)
 
 abbrev zeros : ℕ → List ℕ
 zeros n = replicate n 0
@@ -111,20 +118,18 @@ zeros_behind zero n = let e : n ≡ n - 0 = omega arith in ap zeros e
 zeros_behind (suc k) zero = let e : 0 ≡ 0 - suc k = omega arith in ap zeros e
 zeros_behind (suc k) (suc n) = let e : n - k ≡ suc n - suc k = omega arith in zeros_behind k n ∙ ap zeros e
 
--- A text put into a slice of zeros: it stands in front, and the place is its length, where it fits; else the place is behind the end.
-pub puts_all : (n : ℕ) (text out' : List ℕ) (at' : ℕ) → Puts text (replicate n 0) 0 at' out'
-    → (length text ≤ n → (at' ≡ length text) × (out' ≡ text ++ replicate (n - length text) 0)) × (n < length text → n < at')
-puts_all n text out' at' p = (fits, long)
-  where
-    fits : length text ≤ n → (at' ≡ length text) × (out' ≡ text ++ zeros (n - length text))
-    fits h =
-        let k : 0 + length text ≤ length (zeros n) = simp length-replicate (omega arith) in
-        let same : 0 + length text ≡ length text = omega arith in
-        let e = p.met ∙ room text (zeros n) 0 k in
-        (ap (λ (s : State). s.1) e ∙ same, ap (λ (s : State). s.0) e ∙ sets-eq text (zeros n) 0 k ∙ rw (same, zeros_behind (length text) n))
+-- A text put into a slice of zeros: it stands in front, and the place is its length.
+pub puts_all : (n : ℕ) {t : List ℕ} {o p : Out} {u : ⊤} → o.bytes.now ≡ replicate n 0 → o.at ≡ 0 → Puts t o p (Ok u)
+    → (length t ≤ n) × (p.at ≡ length t) × (p.bytes.now ≡ t ++ replicate (n - length t) 0)
+puts_all n {t} {o} {p} z a x =
+    let long : length o.bytes.now ≡ n = ap length z ∙ length-replicate {A = ℕ} n 0 in
+    let k : 0 + length t ≤ length (zeros n) = omega (arith, fits x.told, length-replicate {A = ℕ} n 0) in
+    let same : 0 + length t ≡ length t = omega arith in (
+      omega (arith, fits x.told),
+      omega (arith, fits x.told, x.place),
+      x.bytes ∙ rw (z, a, sets-eq t (zeros n) 0 k) (rw (same, zeros_behind (length t) n)),
+    )
 
-    long : n < length text → n < at'
-    long h =
-        let l : length (zeros n) ≡ n = length-replicate n 0 in
-        let e : at' ≡ (after (zeros n, 0) text).1 = ap (λ (s : State). s.1) p.met in
-        omega (arith, too_long text (zeros n) 0 (omega arith) (omega arith))
+-- Where there was no room, the text is longer.
+pub puts_not : (n : ℕ) {t : List ℕ} {o p : Out} {e : Reason} → o.bytes.now ≡ replicate n 0 → o.at ≡ 0 → Puts t o p (Err e) → n < length t
+puts_not n {t} {o} z a x = omega (arith, lacks x.told, ap length z, length-replicate {A = ℕ} n 0)

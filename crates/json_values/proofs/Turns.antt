@@ -1,10 +1,11 @@
 -- Loops over the bytes of a payload: what one byte more adds to what is written.
-use mathlib.Core.Path.{◌≡◌, refl, ap, ◌∙◌}
+use mathlib.Core.Path.{◌≡◌, refl, sym, ap, ◌∙◌}
 use mathlib.Core.List.{List, [], ◌∷◌, ◌++◌}
 use Prim.Native.Nat.{ℕ, suc, ◌+◌, ◌*◌, ◌/◌, ◌%◌, ◌<◌}
 use native.Mathlib.Omega.{arith}
-use lib.ListN.{length, take, get_or}
+use lib.ListN.{length, take, drop, get_or}
 use lib.Seq.{take-suc}
+use Rattle.std.proofs.Common.{take-append-drop}
 use Rattle.fields.specs.Field.{number}
 use Rattle.json_text.specs.Values.{hex, hexes, escape, escaped}
 use Rattle.json_text.proofs.Texts.{escaped_append, escaped_one}
@@ -23,6 +24,15 @@ number_append s (c ∷ a) b = number_append (s * 256 + c) a b
 two_digits : (b : ℕ) → b < 256 → escaped (hex (b / 16) ∷ hex (b % 16) ∷ []) ≡ hex (b / 16) ∷ hex (b % 16) ∷ []
 unfolding escaped
 two_digits b h = rw (hex_plain (b / 16) (omega arith), hex_plain (b % 16) (omega arith))
+
+-- What is written of a front, and of what is behind it.
+module _ (bs : List ℕ) (i : ℕ) where
+  pub escaped_rest : escaped (take i bs) ++ escaped (drop i bs) ≡ escaped bs
+  escaped_rest = sym (escaped_append (take i bs) (drop i bs)) ∙ ap escaped (take-append-drop i bs)
+
+  pub digits_rest : escaped (hexes (take i bs)) ++ escaped (hexes (drop i bs)) ≡ escaped (hexes bs)
+  digits_rest =
+      sym (escaped_append (hexes (take i bs)) (hexes (drop i bs))) ∙ ap escaped (sym (hexes_append (take i bs) (drop i bs)) ∙ ap hexes (take-append-drop i bs))
 
 module _ (bs : List ℕ) (i : ℕ) (h : i < length bs) where
   pub escaped_turn : escaped (take (suc i) bs) ≡ escaped (take i bs) ++ escape (get_or bs i 0)

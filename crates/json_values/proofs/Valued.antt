@@ -1,15 +1,19 @@
 -- Values by class: which characters there are, and that a proper payload's value is that of what is shown.
-use mathlib.Core.Path.{◌≡◌, ap, ◌∙◌}
+use mathlib.Core.Path.{◌≡◌, refl, ap, ◌∙◌}
 use mathlib.Core.Bool.{true, false}
+use mathlib.Core.Logic.{inl, inr}
 use mathlib.Core.List.{List, []}
-use Prim.Native.Nat.{ℕ, ◌<◌}
+use Prim.Native.Nat.{ℕ, ◌≤◌, ◌<◌}
 use native.Mathlib.Decide.{ℕ_discrete}
 use native.Mathlib.Omega.{arith}
 use borrow.Author.Tests.{lt-leb, eqb-true, ne_eqb}
 use lib.ListN.{length, take}
 use lib.Seq.{take_all}
+use lib.Utf8.{encode as bytes_of}
+use Rattle.std.specs.Char.{InScalarRange, OutOfScalarRange}
 use Rattle.grammar.specs.Words.{class}
 use Rattle.unicode_text.specs.Unicode.{scalar, encode}
+use Rattle.unicode_text.proofs.Values.{low_scalar, high_scalar, no_scalar}
 use Rattle.fields.specs.Field.{allowed, number, unicode}
 use Rattle.payloads.specs.Claims.{Proper}
 use Rattle.json_text.specs.Values.{signed, quoted}
@@ -20,6 +24,19 @@ use Rattle.json_values.specs.Valued.{character, valued, AsValue}
 pub beyond : (c : ℕ) → 0x10FFFF < c → scalar c ≡ false
 unfolding scalar
 beyond c h = rw (lt-leb c 0x10FFFF h)
+
+-- The library's scalar values are those of the Standard's definition, and so are their bytes.
+pub in_range : (c : ℕ) → InScalarRange c → scalar c ≡ true
+in_range c (inl h) = low_scalar c h
+in_range c (inr h) = high_scalar c (omega (arith, h)) (omega (arith, h))
+
+pub out_of_range : (c : ℕ) → c ≤ 0x10FFFF → OutOfScalarRange c → scalar c ≡ false
+out_of_range c l (inl h) = no_scalar c (omega (arith, h)) (omega (arith, h))
+out_of_range c l (inr h) = absurd (omega (arith, h))
+
+pub same_bytes : (c : ℕ) → bytes_of c ≡ encode c
+unfolding bytes_of encode
+same_bytes c = refl
 
 pub no_character : (c : ℕ) → scalar c ≡ false → character c ≡ []
 unfolding character

@@ -1,19 +1,29 @@
 -- Bytes that are put into a lent slice, one behind the other.
-use Rattle.std.specs.Prelude.{ℕ, suc, ◌≡◌, cond, List, [], ◌∷◌, ltb, length, set}
+use Rattle.std.specs.Prelude.{ℕ, ◌+◌, ◌-◌, ◌≤◌, ◌<◌, ◌≡◌, min, List, length, Result, Ok, Err, ⊤}
+use Rattle.std.proofs.Math.Seq.{sets}
+use Rattle.std.specs.Borrow.{MutBor}
+use Rattle.refusals.specs.declared.Reason.{Reason}
+use Rattle.refusals.specs.declared.Reason.TheVariants.{TooShort}
+use Rattle.json_values.specs.declared.output.Out.{Out}
 
--- A slice, and the place for the next byte. A place behind the end says that there was no room.
-abbrev pub State : Type 0
-State = List ℕ × ℕ
+-- How many bytes there is room for.
+abbrev pub room : Out → ℕ
+room o = length o.bytes.now - o.at
 
--- One byte more, as far as there is room.
-unfoldable pub put : ℕ → State → State
-put b s = cond (ltb s.1 (length s.0)) (set s.0 s.1 b, suc s.1) (s.0, suc (length s.0))
+-- Whether there is room for all of a text, or an error.
+pub data Told (text : List ℕ) (room : ℕ) : Result ⊤ Reason → Type 0 where
+  whole : length text ≤ room → Told text room (Ok tt)
+  cut : room < length text → Told text room (Err TooShort)
 
--- The bytes of a text, one after the other.
-unfoldable pub after : State → List ℕ → State
-after s [] = s
-after s (b ∷ bs) = after (put b s) bs
+-- The promise of putting a text: it stands at the place, as far as there is room for it, and the rest of the slice is as it was.
+pub record Puts (text : List ℕ) (old new : Out) (result : Result ⊤ Reason) : Type 0 where
+  pub same_slice : new.bytes.ghost_name ≡ old.bytes.ghost_name
+  pub bytes : new.bytes.now ≡ sets old.bytes.now old.at text
+  pub place : new.at ≡ old.at + min (length text) (room old)
+  pub told : Told text (room old) result
 
--- The promise of putting a text at a place of a slice: the place behind it, and the slice as it is then.
-pub record Puts (text out : List ℕ) (at at' : ℕ) (out' : List ℕ) : Type 0 where
-  pub met : ◌≡◌ {A = State} (out', at') (after (out, at) text)
+-- The front of a slice that is lent.
+pub record Begins (lent : MutBor (List ℕ)) (new : Out) : Type 0 where
+  pub same_slice : new.bytes.ghost_name ≡ lent.ghost_name
+  pub bytes : new.bytes.now ≡ lent.now
+  pub place : new.at ≡ 0

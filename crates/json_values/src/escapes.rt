@@ -1,10 +1,11 @@
 // A byte of a JSON string: escaped where it must be, or as two hexadecimal digits.
-ghost use Rattle.std.specs.Prelude.{◌≡◌, [], ◌∷◌, ◌++◌, ◌/◌, ◌%◌, ◌<◌};
+ghost use Rattle.std.specs.Prelude.{◌≡◌, [], ◌∷◌, ◌++◌, ◌/◌, ◌%◌, ◌<◌, IsTrue};
 ghost use Rattle.lines.specs.Lines.{letters};
 ghost use Rattle.json_text.specs.Values.{hex, escape};
 ghost use Rattle.json_values.specs.Puts.{Puts};
 
-use crate::put::{put_byte, put_bytes};
+use crate::output::Out;
+use refusals::Reason;
 
 const BACKSLASH: u8 = b'\\';
 
@@ -13,60 +14,68 @@ fn digit(d: u8) -> u8
     requires { d < 16 }
     ensures { result ≡ hex d }
 {
-    if d < 10 {
-        return 48 + d;
-    }
-    55 + d
-}
-
-// Puts the two digits of a byte.
-pub fn put_hex(out: &mut [u8], at: usize, b: u8) -> usize
-    ensures { Puts (hex (b / 16) ∷ hex (b % 16) ∷ []) out.old at result out.new }
-{
-    let place = put_byte(out, at, digit(b / 16));
-    put_byte(out, place, digit(b % 16))
-}
-
-// Puts a backslash and a letter.
-fn put_short(out: &mut [u8], at: usize, letter: u8) -> usize
-    ensures { Puts (0x5C ∷ letter ∷ []) out.old at result out.new }
-{
-    let place = put_byte(out, at, BACKSLASH);
-    put_byte(out, place, letter)
-}
-
-// Puts the escape of a byte by its number.
-fn put_long(out: &mut [u8], at: usize, b: u8) -> usize
-    ensures { Puts (letters "\\u00" ++ (hex (b / 16) ∷ hex (b % 16) ∷ [])) out.old at result out.new }
-{
-    let place = put_bytes(out, at, b"\\u00");
-    put_hex(out, place, b)
-}
-
-// Puts a control character of a string: in the short form where it has one.
-fn put_control(out: &mut [u8], at: usize, b: u8) -> usize
-    requires { b < 0x20 }
-    ensures { Puts (escape b) out.old at result out.new }
-{
-    match b {
-        0x08 => put_short(out, at, b'b'),
-        0x09 => put_short(out, at, b't'),
-        0x0A => put_short(out, at, b'n'),
-        0x0C => put_short(out, at, b'f'),
-        0x0D => put_short(out, at, b'r'),
-        _ => put_long(out, at, b),
+    match d {
+        0..=9 => b'0' + d,
+        _ => b'A' - 10 + d,
     }
 }
 
-// Puts a byte of a string.
-pub fn put_escape(out: &mut [u8], at: usize, b: u8) -> usize
-    ensures { Puts (escape b) out.old at result out.new }
+// Whether a byte of a string stands as it is.
+#[tactic(auto, using(crate::proofs::Plain::plain))]
+pub fn is_plain(b: u8) -> bool
+    ensures { IsTrue result → escape b ≡ b ∷ [] }
 {
-    if b < 0x20 {
-        return put_control(out, at, b);
+    !matches!(b, 0..0x20 | b'"' | BACKSLASH)
+}
+
+impl Out<'_> {
+    // Puts the two digits of a byte.
+    pub(crate) fn put_hex(&mut self, b: u8) -> Result<(), Reason>
+        ensures { Puts (hex (b / 16) ∷ hex (b % 16) ∷ []) self.old self.new result }
+    {
+        self.put_byte(digit(b / 16))?;
+        self.put_byte(digit(b % 16))
     }
-    match b {
-        b'"' | BACKSLASH => put_short(out, at, b),
-        _ => put_byte(out, at, b),
+
+    // Puts a backslash and a letter.
+    fn put_short(&mut self, letter: u8) -> Result<(), Reason>
+        ensures { Puts (0x5C ∷ letter ∷ []) self.old self.new result }
+    {
+        self.put_byte(BACKSLASH)?;
+        self.put_byte(letter)
+    }
+
+    // Puts the escape of a byte by its number.
+    fn put_long(&mut self, b: u8) -> Result<(), Reason>
+        ensures { Puts (letters "\\u00" ++ (hex (b / 16) ∷ hex (b % 16) ∷ [])) self.old self.new result }
+    {
+        self.put_bytes(b"\\u00")?;
+        self.put_hex(b)
+    }
+
+    // Puts a control character of a string: in the short form where it has one.
+    fn put_control(&mut self, b: u8) -> Result<(), Reason>
+        requires { b < 0x20 }
+        ensures { Puts (escape b) self.old self.new result }
+    {
+        match b {
+            0x08 => self.put_short(b'b'),
+            0x09 => self.put_short(b't'),
+            0x0A => self.put_short(b'n'),
+            0x0C => self.put_short(b'f'),
+            0x0D => self.put_short(b'r'),
+            _ => self.put_long(b),
+        }
+    }
+
+    // Puts a byte of a string.
+    pub(crate) fn put_escape(&mut self, b: u8) -> Result<(), Reason>
+        ensures { Puts (escape b) self.old self.new result }
+    {
+        match b {
+            0..0x20 => self.put_control(b),
+            b'"' | BACKSLASH => self.put_short(b),
+            _ => self.put_byte(b),
+        }
     }
 }

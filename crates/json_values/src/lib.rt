@@ -2,10 +2,8 @@
 #![tactic(auto)]
 
 mod escapes;
-mod put;
+mod output;
 mod texts;
 mod values;
 
-pub use put::{put_byte, put_bytes, put_decimal};
-pub use texts::put_quoted;
-pub use values::put_value;
+pub use output::Out;

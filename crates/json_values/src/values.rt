@@ -5,32 +5,27 @@ ghost use Rattle.json_text.specs.Values.{signed};
 ghost use Rattle.json_values.specs.Puts.{Puts};
 ghost use Rattle.json_values.specs.Valued.{character, valued};
 
-use crate::put::{put_byte, put_decimal};
-use crate::texts::{put_folded, put_hexes, put_quoted};
+use crate::output::Out;
+use fields::Class;
+use refusals::Reason;
 
-// The classes whose value is no text as it stands.
-const INTEGER: u8 = 3;
+// The classes whose value is no text as it stands. They are numbers here, since any byte may be passed for a class.
+const INTEGER: u8 = Class::Integer as u8;
 
-const STR: u8 = 4;
+const STR: u8 = Class::Str as u8;
 
-const FLOAT: u8 = 5;
+const FLOAT: u8 = Class::Float as u8;
 
-const CHAR: u8 = 6;
+const CHAR: u8 = Class::Char as u8;
 
 // The number that at most so many bytes give, the high one first.
 fn number_of(bytes: &[u8], most: usize) -> u64
     requires { most ≤ 8 }
     ensures { result ≡ number 0 (take most bytes.now) }
 {
-    let mut end = most;
-    if bytes.len() < most {
-        end = bytes.len();
-    }
     let mut n: u64 = 0;
-    let mut i = 0;
-    while i < end {
-        n = n * 256 + bytes[i] as u64;
-        i += 1;
+    for &b in &bytes[..most.min(bytes.len())] {
+        n = n * 256 + b as u64;
     }
     n
 }
@@ -38,55 +33,41 @@ fn number_of(bytes: &[u8], most: usize) -> u64
 // From here on 64 bits are a number below 0.
 const SIGNED: u64 = 0x8000_0000_0000_0000;
 
-// Puts 64 bits as a signed number.
-fn put_signed(out: &mut [u8], at: usize, n: u64) -> usize
-    ensures { Puts (signed n) out.old at result out.new }
-{
-    if n < SIGNED {
-        return put_decimal(out, at, n);
+impl Out<'_> {
+    // Puts 64 bits as a signed number.
+    fn put_signed(&mut self, n: u64) -> Result<(), Reason>
+        ensures { Puts (signed n) self.old self.new result }
+    {
+        if n < SIGNED {
+            return self.put_decimal(n);
+        }
+        self.put_byte(b'-')?;
+        self.put_decimal(0xFFFF_FFFF_FFFF_FFFF - n + 1)
     }
-    let place = put_byte(out, at, b'-');
-    put_decimal(out, place, 0xFFFF_FFFF_FFFF_FFFF - n + 1)
-}
 
-// Puts a character as a string, and nothing where the number is no scalar value.
-fn put_character(out: &mut [u8], at: usize, c: u64) -> usize
-    ensures { Puts (character c) out.old at result out.new }
-{
-    if 0x10FFFF < c {
-        return at;
+    // Puts a character as a string, and nothing where the number is no scalar value.
+    fn put_character(&mut self, c: u64) -> Result<(), Reason>
+        ensures { Puts (character c) self.old self.new result }
+    {
+        if 0x10FFFF < c {
+            return Ok(());
+        }
+        match char::from_u32(c as u32) {
+            Some(sign) => self.put_quoted(sign.encode_utf8(&mut [0; 4]).as_bytes()),
+            None => Ok(()),
+        }
     }
-    if !unicode_text::is_scalar(c as u32) {
-        return at;
-    }
-    if c < 0x80 {
-        let only = c as u8;
-        return put_quoted(out, at, &[only]);
-    }
-    let last = (0x80 + c % 64) as u8;
-    if c < 0x800 {
-        let first = (0xC0 + c / 64) as u8;
-        return put_quoted(out, at, &[first, last]);
-    }
-    let third = (0x80 + c / 64 % 64) as u8;
-    if c < 0x10000 {
-        let first = (0xE0 + c / 4096) as u8;
-        return put_quoted(out, at, &[first, third, last]);
-    }
-    let second = (0x80 + c / 4096 % 64) as u8;
-    let first = (0xF0 + c / 262144) as u8;
-    put_quoted(out, at, &[first, second, third, last])
-}
 
-// Puts the value of a payload by its class.
-pub fn put_value(out: &mut [u8], at: usize, class: u8, payload: &[u8]) -> usize
-    ensures { Puts (valued class payload.now) out.old at result out.new }
-{
-    match class {
-        INTEGER => put_signed(out, at, number_of(payload, 8)),
-        FLOAT => put_hexes(out, at, payload),
-        CHAR => put_character(out, at, number_of(payload, 4)),
-        STR => put_folded(out, at, payload),
-        _ => put_quoted(out, at, payload),
+    // Puts the value of a payload by its class.
+    pub fn put_value(&mut self, class: u8, payload: &[u8]) -> Result<(), Reason>
+        ensures { Puts (valued class payload.now) self.old self.new result }
+    {
+        match class {
+            INTEGER => self.put_signed(number_of(payload, 8)),
+            FLOAT => self.put_hexes(payload),
+            CHAR => self.put_character(number_of(payload, 4)),
+            STR => self.put_folded(payload),
+            _ => self.put_quoted(payload),
+        }
     }
 }

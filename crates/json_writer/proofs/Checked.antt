@@ -16,8 +16,8 @@ use Rattle.payloads.specs.Index.{held, laid}
 use Rattle.trees.specs.Pool.{In, row_fine, Reached, start, on, fault, Holds, infix_row, row, HoldsAll, none, more}
 use Rattle.trees.specs.Verdict.{NoneBad}
 use Rattle.trees.proofs.Sound.{holds_if}
-use Rattle.placed.specs.declared.Placed.{Placed}
-use Rattle.placed.specs.declared.Placed.TheVariants as answer
+use Rattle.std.specs.Prelude.{Result, Ok, Some, None}
+use Rattle.refusals.specs.Refusal.{Numbered}
 use Rattle.payloads.specs.Claims.{Bytes}
 use Rattle.placed.specs.Left.{Left}
 use Rattle.placed.specs.Over.{LowestOf, NoneOf, Wrong, bad, misplaced, Over, bad_file, no_root, wrong_row, a_tree}
@@ -38,10 +38,10 @@ pub record IsTree (pool : List ℕ) (root : ℕ) (file : List ℕ) (count : ℕ)
   pub holds : Holds pool root tree
   pub fitting : fits any-root tree ≡ true
 
-pub the_tree : {pool file : List ℕ} {root count : ℕ} → Over pool root file (answer.Fields count) → IsTree pool root file count
+pub the_tree : {pool file : List ℕ} {root count : ℕ} → Over pool root file (Ok count) → IsTree pool root file count
 the_tree {pool} {file} {root} {count} v = go v refl
   where
-    go : {c : Placed} → Over pool root file c → c ≡ answer.Fields count → IsTree pool root file count
+    go : {c : Result ℕ Numbered} → Over pool root file c → c ≡ Ok count → IsTree pool root file count
     go (bad_file e) q = absurd (let z : ◌≡◌ {A = ℕ} 0 1 = cc in omega arith)
     go (no_root e n) q = absurd (let z : ◌≡◌ {A = ℕ} 0 1 = cc in omega arith)
     go (wrong_row e i l) q = absurd (let z : ◌≡◌ {A = ℕ} 0 1 = cc in omega arith)
@@ -149,13 +149,11 @@ module _ {pool : List ℕ} {root : ℕ} (low : NoneOf pool root (TooDeep pool ro
   root_low h = omega (arith, tree_low top h)
 
 -- the first row that is too deep, or none
-pub some_deep : {pool : List ℕ} {root p : ℕ} → FirstDeep pool root p → (p ≡ 0 → ⊥) → LowestOf pool root (TooDeep pool root) p
-some_deep (none_deep n) h = absurd (h refl)
-some_deep (lowest_deep l) h = l
+pub some_deep : {pool : List ℕ} {root p : ℕ} → FirstDeep pool root (Some p) → LowestOf pool root (TooDeep pool root) p
+some_deep (lowest_deep l) = l
 
-pub none_deeper : {pool : List ℕ} {root p : ℕ} → FirstDeep pool root p → p ≡ 0 → NoneOf pool root (TooDeep pool root)
-none_deeper (none_deep n) h = n
-none_deeper (lowest_deep l) h = absurd (omega (arith, l.inside))
+pub none_deeper : {pool : List ℕ} {root : ℕ} → FirstDeep pool root None → NoneOf pool root (TooDeep pool root)
+none_deeper (none_deep n) = n
 
 -- what the functions that write the rows need
 module _ {pool file starts links : List ℕ} {root count : ℕ} (p : Passed pool root file starts count links) where
@@ -176,7 +174,7 @@ module _ {pool file starts links : List ℕ} {root count : ℕ} (p : Passed pool
   }
 
 -- what the check over a file leaves of a tree is what the writer needs
-pub passed : {pool file starts owners links queue : List ℕ} {root n count : ℕ} → Left pool root file n (answer.Fields count) starts owners links queue
+pub passed : {pool file starts owners links queue : List ℕ} {root n count : ℕ} → Left pool root file n (Ok count) starts owners links queue
     → ((i : ℕ) → get_or file i 0 < 256) → rows (length pool) < n → Passed pool root file starts count links
 passed {pool} {file} {owners = owners} l b h = record {
   over = l.verdict;

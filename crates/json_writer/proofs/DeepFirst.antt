@@ -5,10 +5,11 @@ use mathlib.Core.Path.{◌≡◌, sym, ◌∙◌}
 use mathlib.Core.Logic.{⊎_elim}
 use mathlib.Core.List.{List}
 use lib.ListN.{get_or}
+use Rattle.std.specs.Prelude.{Option}
 use Rattle.slots.proofs.Either.{less_or}
 use Rattle.trees.specs.Pool.{In, Reached}
 use Rattle.trees.specs.Verdict.{NoneBad}
-use Rattle.trees.proofs.Links.{linked_reached, reached_linked}
+use Rattle.trees.proofs.Linked.{linked_reached, reached_linked}
 use Rattle.trees.proofs.Sound.{inside}
 use Rattle.json_writer.specs.Deep.{most_deep, TooDeep, FirstDeep, none_deep, lowest_deep, Tied, Within, FirstLinked, none_linked, lowest_linked, Clears}
 use Rattle.json_writer.proofs.DeepPaths.{reached_at, one_depth}
@@ -32,7 +33,7 @@ module _ (pool : List ℕ) (root : ℕ) {xs ys : List ℕ} (i : In pool root) (g
       ⊎_elim (λ m. record { depth = w.0; path = w.1; more = m })
       (λ m. absurd (n (clears.gone p (record { inside = i; depth = w.0; path = w.1; near = m })))) (less_or most_deep w.0)
 
-  pub first_kept : {p : ℕ} → FirstLinked pool ys p → FirstDeep pool root p
+  pub first_kept : {p : Option ℕ} → FirstLinked pool ys p → FirstDeep pool root p
   first_kept (none_linked z) = none_deep (λ q h d. gone_near q h (z q (inside pool root good i h)) d)
   first_kept (lowest_linked {p} o n z) =
       lowest_deep (record {

@@ -10,15 +10,14 @@ use Rattle.payloads.specs.Fields.{fields_of}
 use Rattle.payloads.proofs.Same.{same_fields}
 use Rattle.trees.specs.Pool.{Holds, start}
 use Rattle.trees.proofs.Unique.{one_tree}
-use Rattle.placed.specs.declared.Placed.TheVariants as over
 use Rattle.placed.specs.Over.{Over}
 use Rattle.json_text.specs.Json.{text}
 use Rattle.json_text.specs.Claims.{Ready}
 use Rattle.json_text.proofs.Injective.{injective}
 use Rattle.json_text.proofs.Grammar.{grammatical}
 use Rattle.json_text.proofs.Utf8.{text_utf8}
-use Rattle.json_writer.specs.declared.Told.{Told}
-use Rattle.json_writer.specs.declared.Told.TheVariants as answer
+use Rattle.std.specs.Prelude.{Result, Ok}
+use Rattle.refusals.specs.Refusal.{Numbered}
 use Rattle.json_writer.specs.Tells.{Tells, no_tree, too_deep, too_short, a_text}
 use Rattle.json_writer.specs.Claims.{Call, wrote, SameBytes, WritesJson}
 use Rattle.json_writer.proofs.Checked.{the_tree, tree_placed}
@@ -33,7 +32,7 @@ record Written (c : Call) : Type 0 where
 written : (c : Call) → Written c
 written c = go c.tells refl refl
   where
-    ready_of : {count : ℕ} (t : Tree) → Over c.pool c.root c.file (over.Fields count) → Holds c.pool c.root t → Ready (fields_of c.file) t
+    ready_of : {count : ℕ} (t : Tree) → Over c.pool c.root c.file (Ok count) → Holds c.pool c.root t → Ready (fields_of c.file) t
     ready_of t v h =
         let i = the_tree v in
         let same : i.tree ≡ t = one_tree c.pool i.holds h in
@@ -43,7 +42,7 @@ written c = go c.tells refl refl
           fields = (same_fields c.file i.words i.given c.are_bytes).2;
         }
 
-    go : {r : Told} {out : List ℕ} → Tells c.pool c.root c.file c.room r out → r ≡ answer.Bytes c.long → out ≡ c.out → Written c
+    go : {r : Result ℕ Numbered} {out : List ℕ} → Tells c.pool c.root c.file c.room r out → r ≡ Ok c.long → out ≡ c.out → Written c
     go (no_tree v) e f = absurd (let z : ◌≡◌ {A = ℕ} 0 1 = cc in omega arith)
     go (too_deep v l) e f = absurd (let z : ◌≡◌ {A = ℕ} 0 1 = cc in omega arith)
     go (too_short t v l h s) e f = absurd (let z : ◌≡◌ {A = ℕ} 0 1 = cc in omega arith)

@@ -1,5 +1,5 @@
 -- What is claimed of the writer: of two accepted calls, and of what is written.
-use Rattle.std.specs.Prelude.{ℕ, ◌≡◌, true, List, take}
+use Rattle.std.specs.Prelude.{ℕ, ◌≡◌, true, List, take, Ok}
 use Rattle.grammar.specs.Tree.{Tree}
 use Rattle.unicode_text.specs.Unicode.{well_formed}
 use Rattle.payloads.specs.Fields.{fields_of}
@@ -7,7 +7,6 @@ use Rattle.payloads.specs.Claims.{Bytes}
 use Rattle.trees.specs.Pool.{Holds}
 use Rattle.json_text.specs.Rfc.{Text}
 use Rattle.json_text.specs.Claims.{Alike}
-use Rattle.json_writer.specs.declared.Told.TheVariants as answer
 use Rattle.json_writer.specs.Tells.{Tells}
 
 -- An accepted call: its pool, root and file, the room that it was given, the length that it answered, and the bytes that it left.
@@ -19,7 +18,7 @@ pub record Call : Type 0 where
   pub long : ℕ
   pub out : List ℕ
   pub are_bytes : Bytes file
-  pub tells : Tells pool root file room (answer.Bytes long) out
+  pub tells : Tells pool root file room (Ok long) out
 
 -- The text that it wrote.
 abbrev pub wrote : Call → List ℕ

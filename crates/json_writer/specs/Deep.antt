@@ -1,5 +1,5 @@
 -- How deep rows stand below a root, and which of them are too deep.
-use Rattle.std.specs.Prelude.{ℕ, suc, ◌≤◌, ◌<◌, ◌≡◌, true, ◌⊎◌, List, length, get_or}
+use Rattle.std.specs.Prelude.{ℕ, suc, ◌≤◌, ◌<◌, ◌≡◌, true, ◌⊎◌, List, length, get_or, Option, None, Some}
 use Rattle.grammar.specs.Script.{word_of}
 use Rattle.trees.specs.Pool.{In, row_fine, Reached}
 use Rattle.trees.specs.Survey.{Surveyed}
@@ -22,10 +22,10 @@ module _ (pool : List ℕ) (root : ℕ) where
     pub path : At r depth
     pub more : most_deep < depth
 
-  -- The first row that is too deep; 0 for none.
-  pub data FirstDeep : ℕ → Type 0 where
-    none_deep : NoneOf pool root TooDeep → FirstDeep 0
-    lowest_deep : {p : ℕ} → LowestOf pool root TooDeep p → FirstDeep p
+  -- The first row that is too deep, or none.
+  pub data FirstDeep : Option ℕ → Type 0 where
+    none_deep : NoneOf pool root TooDeep → FirstDeep None
+    lowest_deep : {p : ℕ} → LowestOf pool root TooDeep p → FirstDeep (Some p)
 
 -- Links that a survey of the root left, whatever the owners that it found.
 pub record Tied (pool : List ℕ) (root : ℕ) (links : List ℕ) : Type 0 where
@@ -44,10 +44,10 @@ module _ (pool : List ℕ) where
     pub path : At pool c t depth
     pub near : depth ≤ left
 
-  -- The lowest row with a link; 0 for none.
-  pub data FirstLinked (links : List ℕ) : ℕ → Type 0 where
-    none_linked : ((q : ℕ) → In pool q → get_or links q 0 ≡ 0) → FirstLinked links 0
-    lowest_linked : {p : ℕ} → In pool p → (get_or links p 0 ≡ 0 → ⊥) → ((q : ℕ) → 1 ≤ q → q < p → get_or links q 0 ≡ 0) → FirstLinked links p
+  -- The lowest row with a link, or none.
+  pub data FirstLinked (links : List ℕ) : Option ℕ → Type 0 where
+    none_linked : ((q : ℕ) → In pool q → get_or links q 0 ≡ 0) → FirstLinked links None
+    lowest_linked : {p : ℕ} → In pool p → (get_or links p 0 ≡ 0 → ⊥) → ((q : ℕ) → 1 ≤ q → q < p → get_or links q 0 ≡ 0) → FirstLinked links (Some p)
 
 -- The numbers at such places became 0, and the others are as they were.
 pub record Clears (P : ℕ → Type 0) (xs ys : List ℕ) : Type 0 where

@@ -1,5 +1,5 @@
 -- What the functions that write the rows of a tree need.
-use Rattle.std.specs.Prelude.{ℕ, ◌+◌, ◌≤◌, ◌<◌, ◌≡◌, true, cond, List, ◌∷◌, ◌++◌, ltb, length}
+use Rattle.std.specs.Prelude.{ℕ, ◌+◌, ◌≤◌, ◌<◌, ◌≡◌, true, cond, List, ◌∷◌, ◌++◌, ltb, length, Ok}
 use Rattle.grammar.specs.Tree.{Tree, infixed, node, Trees, nil, ◌▸◌}
 use Rattle.grammar.specs.Script.{rows}
 use Rattle.files.specs.File.{read}
@@ -12,7 +12,6 @@ use Rattle.lines.specs.Lines.{letters}
 use Rattle.json_text.specs.Values.{quoted}
 use Rattle.json_text.specs.Json.{name}
 use Rattle.json_text.specs.Claims.{all_placed, each_placed}
-use Rattle.placed.specs.declared.Placed.TheVariants as answer
 use Rattle.placed.specs.Over.{Over}
 use Rattle.json_writer.specs.Deep.{Begins, Tied}
 
@@ -64,7 +63,7 @@ pub record AllReady (pool file : List ℕ) (c left : ℕ) : Type 0 where
 
 -- What the check over a file leaves of a tree: the tree, the file's index and the links of its rows.
 pub record Passed (pool : List ℕ) (root : ℕ) (file starts : List ℕ) (count : ℕ) (links : List ℕ) : Type 0 where
-  pub over : Over pool root file (answer.Fields count)
+  pub over : Over pool root file (Ok count)
   pub are_bytes : Bytes file
   pub index : starts ≡ laid file (held file)
   pub tied : Tied pool root links

@@ -9,66 +9,46 @@ ghost use Rattle.json_values.specs.Puts.{Puts};
 ghost use Rattle.json_writer.specs.Ready.{first_members, Indexes};
 
 use json_names::put_name;
-use json_values::{put_bytes, put_decimal, put_value};
-use rows::KIND;
-
-// Where in its row the mark stands, and the place.
-const MARK: usize = 1;
-
-const PLACE: usize = 2;
+use json_values::Out;
+use payloads::Indexed;
+use refusals::Reason;
+use rows::{KIND, MARK, PLACE};
 
 // The first members of a row: its kind, its mark and its place.
-fn put_first(out: &mut [u8], at: usize, kind: u32, mark: u32, place: u32) -> usize
-    ensures { Puts (first_members kind mark place) out.old at result out.new }
+fn put_first(out: &mut Out, kind: u32, mark: u32, place: u32) -> Result<(), Reason>
+    ensures { Puts (first_members kind mark place) out.old out.new result }
 {
-    let a = put_bytes(out, at, b"{\"kind\":");
-    let b = put_name(out, a, kind);
-    let c = put_bytes(out, b, b",\"mark\":");
-    let d = put_decimal(out, c, mark as u64);
-    let e = put_bytes(out, d, b",\"place\":");
-    put_decimal(out, e, place as u64)
+    out.put_bytes(b"{\"kind\":")?;
+    put_name(out, kind)?;
+    out.put_bytes(b",\"mark\":")?;
+    out.put_decimal(mark as u64)?;
+    out.put_bytes(b",\"place\":")?;
+    out.put_decimal(place as u64)
 }
 
 // The member with the payload, where the kind has one.
-fn put_paid(
-    kind: u32,
-    place: u32,
-    file: &[u8],
-    starts: &[u16; payloads::FIELDS],
-    count: usize,
-    out: &mut [u8],
-    at: usize,
-) -> usize
-    requires indexes { Indexes file.now starts.now count }
-    requires place_value { placed (fields_of file.now) kind place ≡ true }
-    ensures { Puts (paid (fields_of file.now) kind place) out.old at result out.new }
+fn put_paid(kind: u32, place: u32, fields: Indexed, out: &mut Out) -> Result<(), Reason>
+    requires indexes { Indexes fields.file.now fields.starts.now fields.count }
+    requires place_value { placed (fields_of fields.file.now) kind place ≡ true }
+    ensures { Puts (paid (fields_of fields.entry.file.now) kind place) out.old out.new result }
 {
-    let class = placed::needs(kind);
-    if class == 0 {
-        return at;
-    }
-    let next = put_bytes(out, at, b",\"payload\":");
-    let payload = payloads::payload(file, starts, count, place as usize);
-    put_value(out, next, class, payload)
+    let Some(class) = placed::needs(kind) else {
+        return Ok(());
+    };
+    out.put_bytes(b",\"payload\":")?;
+    let payload = fields.payload(place as usize);
+    out.put_value(class as u8, payload)
 }
 
 // The head of a row's object.
-pub fn put_head(
-    pool: &[u32],
-    r: usize,
-    file: &[u8],
-    starts: &[u16; payloads::FIELDS],
-    count: usize,
-    out: &mut [u8],
-    at: usize,
-) -> usize
+pub fn put_head(pool: &[u32], r: usize, fields: Indexed, out: &mut Out) -> Result<(), Reason>
     requires fact { In pool.now r }
-    requires indexes { Indexes file.now starts.now count }
-    requires r_value { placed (fields_of file.now) (word_of pool.now r 0) (word_of pool.now r 2) ≡ true }
-    ensures { Puts (head (fields_of file.now) (word_of pool.now r 0) (word_of pool.now r 1) (word_of pool.now r 2)) out.old at result out.new }
+    requires indexes { Indexes fields.file.now fields.starts.now fields.count }
+    requires r_value { placed (fields_of fields.file.now) (word_of pool.now r 0) (word_of pool.now r 2) ≡ true }
+    ensures { Puts (head (fields_of fields.entry.file.now) (word_of pool.now r 0) (word_of pool.now r 1) (word_of pool.now r 2)) out.old out.new result }
 {
     let kind = rows::word(pool, r, KIND);
     let place = rows::word(pool, r, PLACE);
-    let next = put_first(out, at, kind, rows::word(pool, r, MARK), place);
-    put_paid(kind, place, file, starts, count, out, next)
+    put_first(out, kind, rows::word(pool, r, MARK), place)?;
+    put_paid(kind, place, fields, out)
 }

@@ -10,25 +10,22 @@ ghost use Rattle.json_values.specs.Puts.{Puts};
 ghost use Rattle.json_writer.specs.Ready.{key, Indexes, Ready, AllReady};
 
 use crate::head::put_head;
-use json_values::{put_byte, put_bytes};
-use rows::KIND;
-
-// Where in its row the first child stands, and the next.
-const CHILD: usize = 3;
-
-const NEXT: usize = 7;
+use json_values::Out;
+use payloads::Indexed;
+use refusals::Reason;
+use rows::{CHILD, KIND, NEXT};
 
 // The number of the least slot that takes something.
 const SOME: u8 = 16;
 
 // The key of a slot, between a comma and a colon.
-fn put_key(out: &mut [u8], at: usize, i: usize) -> usize
+fn put_key(out: &mut Out, i: usize) -> Result<(), Reason>
     requires { i ≤ 3 }
-    ensures { Puts (key i) out.old at result out.new }
+    ensures { Puts (key i) out.old out.new result }
 {
-    let a = put_bytes(out, at, b",\"c");
-    let b = put_byte(out, a, 48 + i as u8);
-    put_bytes(out, b, b"\":")
+    out.put_bytes(b",\"c")?;
+    out.put_byte(b'0' + i as u8)?;
+    out.put_bytes(b"\":")
 }
 
 // The rows of a list with commas between them, the first at c; none at 0.
@@ -37,27 +34,25 @@ fn put_members(
     pool: &[u32],
     c: usize,
     left: usize,
-    file: &[u8],
-    starts: &[u16; payloads::FIELDS],
-    count: usize,
-    out: &mut [u8],
-    at: usize,
-) -> usize
-    requires indexes { Indexes file.now starts.now count }
-    requires all_ready { AllReady pool.now file.now c left }
-    ensures { (ts : Trees) → HoldsAll pool.now c ts → Puts (listed (texts (fields_of file.now) ts)) out.old at result out.new }
+    fields: Indexed,
+    out: &mut Out,
+) -> Result<(), Reason>
+    requires indexes { Indexes fields.file.now fields.starts.now fields.count }
+    requires all_ready { AllReady pool.now fields.file.now c left }
+    ensures { (ts : Trees) → HoldsAll pool.now c ts → Puts (listed (texts (fields_of fields.entry.file.now) ts)) out.old out.new result }
 {
     if c == 0 {
-        return at;
+        return Ok(());
     }
-    let mut to = put_row(pool, c, left, file, starts, count, out, at);
+    put_row(pool, c, left, fields, out)?;
     let mut r = rows::word(pool, c, NEXT) as usize;
+    // Each row's word says which is next, so no iterator goes over the rows.
     while r != 0 {
-        to = put_byte(out, to, b',');
-        to = put_row(pool, r, left, file, starts, count, out, to);
+        out.put_byte(b',')?;
+        put_row(pool, r, left, fields, out)?;
         r = rows::word(pool, r, NEXT) as usize;
     }
-    to
+    Ok(())
 }
 
 // The member of a row's slot: an object or null, or an array; nothing for a slot that the kind doesn't have.
@@ -67,33 +62,30 @@ fn put_slot(
     r: usize,
     i: usize,
     left: usize,
-    file: &[u8],
-    starts: &[u16; payloads::FIELDS],
-    count: usize,
-    out: &mut [u8],
-    at: usize,
-) -> usize
+    fields: Indexed,
+    out: &mut Out,
+) -> Result<(), Reason>
     requires fact { In pool.now r }
     requires i_bound { i ≤ 3 }
-    requires indexes { Indexes file.now starts.now count }
-    requires all_ready { AllReady pool.now file.now (word_of pool.now r (3 + i)) left }
-    ensures { (ts : Trees) → HoldsAll pool.now (word_of pool.now r (3 + i)) ts → Puts (member i (slot (word_of pool.now r 0) i).many (texts (fields_of file.now) ts)) out.old at result out.new }
+    requires indexes { Indexes fields.file.now fields.starts.now fields.count }
+    requires all_ready { AllReady pool.now fields.file.now (word_of pool.now r (3 + i)) left }
+    ensures { (ts : Trees) → HoldsAll pool.now (word_of pool.now r (3 + i)) ts → Puts (member i (slot (word_of pool.now r 0) i).many (texts (fields_of fields.entry.file.now) ts)) out.old out.new result }
 {
     let s = slots::slot(rows::word(pool, r, KIND), i);
     if s < SOME {
-        return at;
+        return Ok(());
     }
-    let a = put_key(out, at, i);
+    put_key(out, i)?;
     let c = rows::word(pool, r, CHILD + i) as usize;
     if slots::is_list(s) {
-        let b = put_byte(out, a, b'[');
-        let d = put_members(pool, c, left, file, starts, count, out, b);
-        return put_byte(out, d, b']');
+        out.put_byte(b'[')?;
+        put_members(pool, c, left, fields, out)?;
+        return out.put_byte(b']');
     }
     if c == 0 {
-        return put_bytes(out, a, b"null");
+        return out.put_bytes(b"null");
     }
-    put_row(pool, c, left, file, starts, count, out, a)
+    put_row(pool, c, left, fields, out)
 }
 
 // The object of a row. No path from it through children has more rows than are left.
@@ -102,21 +94,18 @@ pub fn put_row(
     pool: &[u32],
     r: usize,
     left: usize,
-    file: &[u8],
-    starts: &[u16; payloads::FIELDS],
-    count: usize,
-    out: &mut [u8],
-    at: usize,
-) -> usize
-    requires indexes { Indexes file.now starts.now count }
-    requires ready { Ready pool.now file.now r left }
-    ensures { (t : Tree) → Holds pool.now r t → Puts (text (fields_of file.now) t) out.old at result out.new }
+    fields: Indexed,
+    out: &mut Out,
+) -> Result<(), Reason>
+    requires indexes { Indexes fields.file.now fields.starts.now fields.count }
+    requires ready { Ready pool.now fields.file.now r left }
+    ensures { (t : Tree) → Holds pool.now r t → Puts (text (fields_of fields.entry.file.now) t) out.old out.new result }
 {
     let below = left - 1;
-    let a = put_head(pool, r, file, starts, count, out, at);
-    let b = put_slot(pool, r, 0, below, file, starts, count, out, a);
-    let c = put_slot(pool, r, 1, below, file, starts, count, out, b);
-    let d = put_slot(pool, r, 2, below, file, starts, count, out, c);
-    let e = put_slot(pool, r, 3, below, file, starts, count, out, d);
-    put_byte(out, e, b'}')
+    put_head(pool, r, fields, out)?;
+    put_slot(pool, r, 0, below, fields, out)?;
+    put_slot(pool, r, 1, below, fields, out)?;
+    put_slot(pool, r, 2, below, fields, out)?;
+    put_slot(pool, r, 3, below, fields, out)?;
+    out.put_byte(b'}')
 }

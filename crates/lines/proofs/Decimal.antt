@@ -1,12 +1,14 @@
 -- Numbers in decimal: what their digits say, the digits from behind, and how many there are.
 use mathlib.Core.Path.{◌≡◌, refl, sym, ap, ◌∙◌}
-use mathlib.Core.List.{List, [], ◌∷◌, ◌++◌, append_assoc}
+use mathlib.Core.List.{List, [], ◌∷◌, ◌++◌}
 use Prim.Native.Nat.{ℕ, zero, suc, ◌+◌, ◌*◌, ◌-◌, ◌/◌, ◌%◌, ◌^◌, ◌≤◌, ◌<◌}
 use native.Mathlib.Decide.{dec_lt}
 use native.Mathlib.Nat.{pow-suc}
 use native.Mathlib.Omega.{arith}
 use lib.ListN.{length, length-append}
 use borrow.Author.Tests.{lt-ltb, le-ltb}
+use Rattle.std.specs.Fmt as std
+use Rattle.std.proofs.lemmas.Fmt.{decimal_by_steps}
 use Rattle.lines.specs.Decimal.{digits, decimal, said, Says, most_digits}
 
 digits_low : (f n : ℕ) → n < 10 → digits f n ≡ (48 + n) ∷ []
@@ -52,6 +54,10 @@ by_digits P low high n = go n n (omega arith)
         turn (yes l) rec = low m l
         turn (no l) rec = high m (omega arith) (rec (omega arith))
 
+-- The library's decimal is the same.
+pub is_decimal : (n : ℕ) → n < 2 ^ 64 → std.decimal n ≡ decimal n
+is_decimal n = decimal_by_steps (λ m ds. ds ≡ decimal m) (λ m h. sym (decimal_low m h)) (λ m ds h e. rw e (sym (decimal_high m h))) n
+
 -- Round trip: the digits of a number say it.
 said_append : (s : ℕ) (ds es : List ℕ) → said s (ds ++ es) ≡ said (said s ds) es
 unfolding said
@@ -68,22 +74,12 @@ says = by_digits (λ n. said 0 (decimal n) ≡ n) low high
     high : (n : ℕ) → 10 ≤ n → said 0 (decimal (n / 10)) ≡ n / 10 → said 0 (decimal n) ≡ n
     high n h e = rw (decimal_high n h, said_append 0 (decimal (n / 10)) ((48 + n % 10) ∷ []), e) (omega arith)
 
--- From behind: what is left of a number, and the digits written so far.
-pub digit_behind : (n : ℕ) (w : List ℕ) → 10 ≤ n → decimal n ++ w ≡ decimal (n / 10) ++ ((48 + n % 10) ∷ w)
-digit_behind n w h = ap (λ ds. ds ++ w) (decimal_high n h) ∙ append_assoc (decimal (n / 10)) ((48 + n % 10) ∷ []) w
-
-pub last_digit : (n : ℕ) (w : List ℕ) → n < 10 → decimal n ++ w ≡ (48 + n) ∷ w
-last_digit n w h = ap (λ ds. ds ++ w) (decimal_low n h)
-
 -- How many: one, and one more for each division by ten.
 length_low : (n : ℕ) → n < 10 → length (decimal n) ≡ 1
 length_low n h = ap length (decimal_low n h)
 
 length_high : (n : ℕ) → 10 ≤ n → length (decimal n) ≡ suc (length (decimal (n / 10)))
 length_high n h = ap length (decimal_high n h) ∙ simp length-append (omega arith)
-
-pub some_digit : (n : ℕ) → 0 < length (decimal n)
-some_digit = by_digits (λ n. 0 < length (decimal n)) (λ n h. omega (arith, length_low n h)) (λ n h _. omega (arith, length_high n h))
 
 pub length_at_most : (i n : ℕ) → n < 10 ^ suc i → length (decimal n) ≤ suc i
 length_at_most zero n h = omega (arith, length_low n (rw (pow-suc 10 0) at h))

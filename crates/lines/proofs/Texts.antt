@@ -5,7 +5,7 @@ use Prim.Native.Nat.{ℕ, zero, suc, ◌+◌, ◌≤◌, ◌<◌}
 use native.Mathlib.Omega.{arith}
 use lib.ListN.{length, take, get_or}
 use lib.Seq.{take-append_seam}
-use Rattle.answer.specs.declared.Answer.{Answer}
+use Rattle.answer.specs.Answer.{Answer}
 use Rattle.lines.specs.Lines.{from, row_line, used, lines}
 use Rattle.lines.specs.Writes.{Writes}
 use Rattle.lines.proofs.Buffers.{fits}

@@ -1,5 +1,5 @@
 -- The text that `outline` prints, from an answer and its pool.
-use Rattle.std.specs.Prelude.{ℕ, zero, suc, ◌+◌, ◌*◌}
+use Rattle.std.specs.Prelude.{ℕ, zero, suc, ◌+◌, ◌*◌, Ok, Err}
 use Prim.Native.Char.{code}
 use Prim.Native.String.{String, [] as empty, ◌∷◌ as ◌then◌}
 use mathlib.Core.List.{List, [], ◌∷◌, ◌++◌, map, flatten}
@@ -7,9 +7,7 @@ use Rattle.grammar.specs.Tree.{Trees, width}
 use Rattle.grammar.specs.Parsed.{Parsed}
 use Rattle.grammar.specs.Script.{pool}
 use Rattle.rows.specs.Rows.{read}
-use Rattle.answer.specs.Answer.{answered}
-use Rattle.answer.specs.declared.Answer.{Answer}
-use Rattle.answer.specs.declared.Answer.TheVariants as an
+use Rattle.answer.specs.Answer.{Answer, answered}
 use Rattle.lines.specs.Decimal.{decimal, most_digits}
 
 -- The bytes of a quoted text.
@@ -29,8 +27,8 @@ line (n ∷ ns) = decimal n ++ (behind ns ∷ line ns)
 
 -- The first line: `ok`, root, rows and last place, or `no`, number and place.
 abbrev pub first_line : Answer → List ℕ
-first_line (an.Accepted root rows place) = letters "ok " ++ line (root ∷ rows ∷ place ∷ [])
-first_line (an.Refused number place) = letters "no " ++ line (number ∷ place ∷ [])
+first_line (Ok a) = letters "ok " ++ line (a.root ∷ a.rows ∷ a.place ∷ [])
+first_line (Err e) = letters "no " ++ line (e.number ∷ e.place ∷ [])
 
 -- So many numbers, counted from the first.
 unfoldable pub from : (first count : ℕ) → List ℕ
@@ -46,8 +44,8 @@ row_line pool reference = line (row_words pool reference)
 
 -- How many rows an answer uses: none after a refusal.
 abbrev pub used : Answer → ℕ
-used (an.Accepted root rows place) = rows
-used (an.Refused number place) = 0
+used (Ok a) = a.rows
+used (Err e) = 0
 
 -- The lines: the first, and then that of each used row.
 abbrev pub lines : Answer → (pool : List ℕ) → List (List ℕ)

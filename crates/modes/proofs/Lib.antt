@@ -1,2 +1,3 @@
 -- What is proved of the contracts.
 pub mod Determined
+mod Signs

@@ -12,16 +12,14 @@ use words::Cursor;
 
 // The original's rules; or strict ones, by which a call with arguments must be closed, and the bodies of while, foreach and
 // finally opened, by the right sign.
-#[derive(Drop)]
-#[derive(Clone, Copy)]
+#[derive(Clone, Copy, Debug, PartialEq, Eq)]
 pub enum Mode {
     Old,
     Strict,
 }
 
 // When a sign must come next: always, or by the mode.
-#[derive(Drop)]
-#[derive(Clone, Copy)]
+#[derive(Clone, Copy, Debug, PartialEq, Eq)]
 pub enum Due {
     Always,
     By(Mode),
@@ -30,14 +28,15 @@ pub enum Due {
 // How many expressions and statements may be open at once.
 const NESTING: usize = 64;
 
-// The same, for the readers.
+// The same, for the readers: the clause ties it to the definition, and a `const` has none.
+#[tactic(auto, unfolding(grammar::specs::Script::nesting))]
 pub fn nesting() -> usize
     ensures { result ≡ nesting }
 {
     NESTING
 }
 
-// The mode by whether it is strict.
+// The mode by whether it is strict. Not a `From<bool>`, which would not say what is true.
 pub fn mode_of(strict: bool) -> Mode
     ensures { result ≡ chosen strict }
 {
@@ -48,21 +47,13 @@ pub fn mode_of(strict: bool) -> Mode
 fn is_due(due: Due) -> bool
     ensures { result ≡ asked due }
 {
-    match due {
-        Due::Always => true,
-        Due::By(mode) => match mode {
-            Mode::Old => false,
-            Mode::Strict => true,
-        },
-    }
+    matches!(due, Due::Always | Due::By(Mode::Strict))
 }
 
 // Whether a sign comes next, where it must.
+#[tactic(auto, using(crate::proofs::Signs::sign))]
 pub fn comes(tokens: &[u16], c: Cursor, s: Symbol, due: Due) -> bool
     ensures { result ≡ comes due tokens.now c (word (token.Operator s)) }
 {
-    if is_due(due) {
-        return words::next_symbol_is(tokens, c, s);
-    }
-    true
+    !is_due(due) || words::next_symbol_is(tokens, c, s)
 }

@@ -52,10 +52,10 @@ pub fn is_infix(t: Token) -> bool
     let Token::Operator(s) = t else {
         return false;
     };
-    (INFIXES >> tokens::symbol_code(s)) & 1 == 1
+    (INFIXES >> u8::from(s)) & 1 == 1
 }
 
-// The mark of an infix operator, 0 for any other token: parse_infix_expression.
+// The mark of an infix operator, 0 for any other token, as its clause has it: parse_infix_expression.
 #[tactic(auto, unfolding(grammar::specs::Words::infix_of, grammar::specs::Words::by_code, grammar::specs::Words::class, grammar::specs::Words::code, grammar::specs::Words::infixes))]
 pub fn infix_mark(t: Token) -> u32
     ensures { result ≡ infix_of (word t) - 1 }
@@ -95,31 +95,21 @@ pub fn infix_mark(t: Token) -> u32
 pub fn is_suffix(t: Token) -> bool
     ensures { result ≡ (eqb (word t) SIncr || eqb (word t) SDecr) }
 {
-    let Token::Operator(s) = t else {
-        return false;
-    };
-    match s {
-        Symbol::SIncr | Symbol::SDecr => true,
-        _ => false,
-    }
+    matches!(t, Token::Operator(Symbol::SIncr | Symbol::SDecr))
+}
+
+// Whether a token opens a call or an index.
+fn opens(t: Token) -> bool
+    ensures { result ≡ (eqb (word t) SLParen || eqb (word t) SLBox) }
+{
+    matches!(t, Token::Operator(Symbol::SLParen | Symbol::SLBox))
 }
 
 // Whether the loop of parse_expression goes on above an order, where the token is next: at an infix or a suffix
 // operator, a call and an index. A semicolon has the lowest order, so it needs no test of its own.
+#[tactic(auto, using(crate::proofs::Goes::goes))]
 pub fn goes_on(order: usize, t: Token) -> bool
     ensures { result ≡ goes_on order (word t) }
 {
-    if order_of(t) <= order {
-        return false;
-    }
-    if is_suffix(t) {
-        return true;
-    }
-    let Token::Operator(s) = t else {
-        return false;
-    };
-    match s {
-        Symbol::SLParen | Symbol::SLBox => true,
-        _ => is_infix(t),
-    }
+    order < order_of(t) && (is_suffix(t) || opens(t) || is_infix(t))
 }

@@ -7,7 +7,6 @@ ghost use Rattle.lines.specs.Lines.{text as whole-text, lines as text-lines};
 ghost use Rattle.outline.specs.Outlined.{outlined};
 
 use answer::Answer;
-use files::Fields;
 use lines::LINE;
 use modes::Mode;
 use rows::WIDTH;
@@ -26,38 +25,35 @@ const POOL: usize = WIDTH * ROWS;
 fn read(bytes: &[u8], tokens: &mut [u16], pool: &mut [u32]) -> Answer
     ensures { whole-text result pool.new ≡ outlined bytes.now (length tokens.old) (length pool.old) }
 {
-    let fields = files::read(bytes, tokens);
-    match fields {
-        Fields::Count(n) => parser::whole_script(&tokens[..n], pool, Mode::Old),
-        Fields::Refused(number, place) => Answer::Refused(number, place),
-    }
+    let n = files::read(bytes, tokens)?;
+    parser::whole_script(&tokens[..n], pool, Mode::Old)
 }
 
 // How many rows an answer uses.
-fn count(answer: Answer) -> usize
-    ensures { result ≡ used answer }
+fn count(answer: &Answer) -> usize
+    ensures { result ≡ used answer.now }
 {
     match answer {
-        Answer::Accepted(_, rows, _) => rows,
-        Answer::Refused(_, _) => 0,
+        Ok(accepted) => accepted.rows,
+        Err(_) => 0,
     }
 }
 
 // A line of the text, counted from 0, in front of a buffer that is long enough for any.
-fn line(answer: Answer, pool: &[u32], i: usize, out: &mut [u8]) -> usize
-    requires { (i ≤ used answer) × (length out.old ≡ longest) }
-    ensures { (result ≤ longest) × (take result out.new ≡ get_or (text-lines answer pool.now) i []) }
+fn line(answer: &Answer, pool: &[u32], i: usize, out: &mut [u8]) -> usize
+    requires { (i ≤ used answer.now) × (length out.old ≡ longest) }
+    ensures { (result ≤ longest) × (take result out.new ≡ get_or (text-lines answer.now pool.now) i []) }
 {
     if i == 0 {
-        lines::first_line(answer, out)
+        lines::first_line(*answer, out)
     } else {
         lines::row_line(pool, i, out)
     }
 }
 
 // Prints a line of the text.
-fn print_line(out: &impl Print, answer: Answer, pool: &[u32], i: usize) -> io::Result<()>
-    requires { i ≤ used answer }
+fn print_line(out: &impl Print, answer: &Answer, pool: &[u32], i: usize) -> io::Result<()>
+    requires { i ≤ used answer.now }
 {
     let mut bytes: [u8; LINE] = [0; LINE];
     let n = line(answer, pool, i, &mut bytes);
@@ -65,12 +61,8 @@ fn print_line(out: &impl Print, answer: Answer, pool: &[u32], i: usize) -> io::R
 }
 
 // Prints the text, line after line; stops at one that can't be written.
-fn print(out: &impl Print, answer: Answer, pool: &[u32]) -> io::Result<()> {
-    print_line(out, answer, pool, 0)?;
-    let rows = count(answer);
-    let mut i = 0;
-    while i < rows {
-        i += 1;
+fn print(out: &impl Print, answer: &Answer, pool: &[u32]) -> io::Result<()> {
+    for i in 0..=count(answer) {
         print_line(out, answer, pool, i)?;
     }
     Ok(())
@@ -82,5 +74,5 @@ fn main(rt: HostRuntime) -> io::Result<()> {
     let mut pool: [u32; POOL] = [0; POOL];
     let n = input::read_full(&mut rt.stdin(), &mut bytes)?;
     let answer = read(&bytes[..n], &mut tokens, &mut pool);
-    print(&rt, answer, &pool)
+    print(&rt, &answer, &pool)
 }

@@ -1,6 +1,5 @@
 -- The promises of the entries: what is claimed of the definition, carried to every result that meets a contract.
 use Prim.Native.Nat.{ℕ}
-use native.Mathlib.Omega.{arith}
 use mathlib.Core.Path.{◌≡◌, refl, sym, ap, ◌∙◌}
 use mathlib.Core.Logic.{◌⊎◌, inl, inr, ⊎_elim}
 use mathlib.Core.List.{List}
@@ -13,8 +12,11 @@ use Rattle.grammar.proofs.Ends.{pool_ends, ends_told}
 use Rattle.grammar.specs.Claims.{RowsEnd, EndsWhereLacking, Unless}
 use Rattle.grammar.proofs.Strict.{strict_or_same}
 use Rattle.grammar.proofs.Suffices.{rows_enough, largest_enough, rows_full}
-use Rattle.answer.specs.Answer.{Entered, answered, numbers}
-use Rattle.answer.specs.declared.Answer.TheVariants.{Accepted, Refused}
+use Rattle.std.specs.Prelude.{Ok, Err}
+use Rattle.refusals.specs.Refusal.{refusal}
+use Rattle.refusals.proofs.Laws.{same_number, same_place as same_spot, not_both}
+use Rattle.answer.specs.Answer.{Entered, accepted, answered, numbers}
+use Rattle.answer.proofs.Laws.{same_root, same_used, same_place}
 use Rattle.parser.specs.Promises.{Numbered, ZeroAfter, Opens, ChainsAnswered, RuleAnswered, EndsAnswered, EndTells, EndsToldAnswered, EnoughAnswered}
 use Rattle.parser.specs.Promises.{SameUnless, GiveUnless, StrictAnswered, AcceptsToo, StrictAccepted}
 
@@ -29,13 +31,13 @@ numbered P r words ys e = ap numbers e.answer ∙ numbers_are P
 pub zero_after : ZeroAfter
 unfolding pool
 zero_after (refused n p) number place words ys e = e.left
-zero_after (read us at left) number place words ys e = let a = e.answer in let z : ◌≡◌ {A = ℕ} 0 1 = cc in absurd (omega arith)
+zero_after (read us at left) number place words ys e = not_both e.answer refl
 
 pub opens : Opens
-opens (refused n p) root used place words ys e = let a = e.answer in let z : ◌≡◌ {A = ℕ} 0 1 = cc in absurd (omega arith)
+opens (refused n p) root used place words ys e = not_both refl e.answer
 opens (read us at left) root used place words ys e =
-    let a = e.answer in
-    record { trees = us; left = left; was_read = cc; all_used = cc; root_last = cc }
+    let q : place ≡ at = same_place e.answer in
+    record { trees = us; left = left; was_read = ap (λ (p : ℕ). read us p left) (sym q); all_used = same_used e.answer; root_last = same_root e.answer ∙ sym (same_used e.answer) }
 
 pub chains_answered : ChainsAnswered
 chains_answered rules ts deep s at used parts g r words ys enough e =
@@ -48,9 +50,9 @@ rule_answered rules ts start room words r ys =
     (λ e. rw e.left c.0, λ e. rw e.left c.1, λ e. rw e.left c.2)
 
 -- A refusal that an entry answers is the definition's.
-refusal : (P : Parsed Trees) {number place words : ℕ} {ys : List ℕ} → Entered P (Refused number place) words ys → P ≡ refused number place
-refusal (refused n p) e = let a = e.answer in cc
-refusal (read us at left) e = let a = e.answer in let z : ◌≡◌ {A = ℕ} 0 1 = cc in absurd (omega arith)
+was_refused : (P : Parsed Trees) {number place words : ℕ} {ys : List ℕ} → Entered P (Err (refusal number place)) words ys → P ≡ refused number place
+was_refused (refused n p) e = let x = same_number e.answer in let y = same_spot e.answer in cc
+was_refused (read us at left) e = not_both e.answer refl
 
 -- What is claimed of an acceptance's trees and pool, of the words that an entry has left.
 rows_end : (P : Parsed Trees) (start used place words left : ℕ) (ys : List ℕ) (us : Trees) → ys ≡ pool words P → P ≡ read us place left → used ≡ sizes us
@@ -59,7 +61,7 @@ rows_end P start used place words left ys us a b c h = rw (a, b, c) h
 
 opened_ends : (P : Parsed Trees) (start root used place words : ℕ) (ys : List ℕ)
     → ((us : Trees) (left : ℕ) → P ≡ read us place left → RowsEnd (pool words (read us place left)) start (sizes us) place)
-    → Entered P (Accepted root used place) words ys → RowsEnd ys start used place
+    → Entered P (Ok (accepted root used place)) words ys → RowsEnd ys start used place
 opened_ends P start root used place words ys h e =
     let o = opens P root used place words ys e in
     rows_end P start used place words o.left ys o.trees e.left o.was_read o.all_used (h o.trees o.left o.was_read)
@@ -76,7 +78,7 @@ end_tells entry h root used place words fewer r n ys zs a e f lo hi q =
     let o = opens (entry (rows words)) root used place words ys e in
     let x = h (rows words) words r n o.trees place o.left o.was_read lo (rw (← o.all_used) hi) in (
       λ w. f.answer ∙ ap answered (ap entry q ∙ x.0 (rw (← e.left) w)),
-      λ w. rw e.left (x.1 (rw (← q) (refusal (entry (rows fewer)) (rw w at f)))),
+      λ w. rw e.left (x.1 (rw (← q) (was_refused (entry (rows fewer)) (rw w at f)))),
     )
 
 pub ends_told_answered : EndsToldAnswered
@@ -85,8 +87,8 @@ ends_told_answered rules ts start =
     (end_tells _ c.0, end_tells _ c.1, end_tells _ c.2)
 
 either : {P : Parsed Trees} {A B : Type 0} {number place words : ℕ} {ys : List ℕ} → (A → ¬ (P ≡ refused number place)) → (B → ¬ (P ≡ refused number place))
-    → A ⊎ B → ¬ Entered P (Refused number place) words ys
-either {P} f g h e = ⊎_elim (λ a. f a (refusal P e)) (λ b. g b (refusal P e)) h
+    → A ⊎ B → ¬ Entered P (Err (refusal number place)) words ys
+either {P} f g h e = ⊎_elim (λ a. f a (was_refused P e)) (λ b. g b (was_refused P e)) h
 
 pub enough_answered : EnoughAnswered
 enough_answered rules ts start words = (
@@ -96,7 +98,7 @@ enough_answered rules ts start words = (
 )
 
 same_unless : (n : ℕ) (P Q : Parsed Trees) → Unless n P Q → GiveUnless n P Q
-same_unless n (refused m p) Q (inl h) r r' words ys ys' e e' = inl (p, e.answer ∙ ap (λ (k : ℕ). Refused k p) h)
+same_unless n (refused m p) Q (inl h) r r' words ys ys' e e' = inl (p, e.answer ∙ ap (λ (k : ℕ). Err (refusal k p)) h)
 same_unless n (read us at left) Q (inl h) r r' words ys ys' e e' = absurd h
 same_unless n P Q (inr h) r r' words ys ys' e e' =
     inr (e.answer ∙ ap answered h ∙ sym e'.answer, e.left ∙ ap (pool words) h ∙ sym e'.left)
@@ -109,8 +111,8 @@ strict_answered ts start room =
 accepts_too : (n : ℕ) (P Q : Parsed Trees) → GiveUnless n P Q → AcceptsToo P Q
 accepts_too n P Q h root used place words ys ys' r e e' = go (h _ r words ys ys' e e')
   where
-    go : SameUnless n (Accepted root used place) r ys ys' → (r ≡ Accepted root used place) × (ys' ≡ ys)
-    go (inl q) = let f = q.1 in let z : ◌≡◌ {A = ℕ} 0 1 = cc in absurd (omega arith)
+    go : SameUnless n (Ok (accepted root used place)) r ys ys' → (r ≡ Ok (accepted root used place)) × (ys' ≡ ys)
+    go (inl q) = not_both refl q.1
     go (inr q) = (sym q.0, sym q.1)
 
 pub strict_accepted : StrictAccepted

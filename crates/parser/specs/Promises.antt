@@ -1,5 +1,5 @@
 -- What is promised of every result that meets an entry's contract, each promise as a named type.
-use Rattle.std.specs.Prelude.{ℕ, ◌-◌, ◌*◌, ◌≤◌, ◌≡◌, List, [], ◌∷◌, ◌++◌, ◌⊎◌, replicate}
+use Rattle.std.specs.Prelude.{ℕ, ◌-◌, ◌*◌, ◌≤◌, ◌≡◌, List, [], ◌∷◌, ◌++◌, ◌⊎◌, replicate, Ok, Err}
 use Rattle.grammar.specs.Tree.{Trees, sizes, lay, width}
 use Rattle.grammar.specs.Parsed.{Parsed, read, NoRow, WrongSign}
 use Rattle.grammar.specs.Rules.{Rules}
@@ -7,9 +7,8 @@ use Rattle.grammar.specs.Script.{one_expression, one_statement, whole_script, la
 use Rattle.grammar.specs.Claims.{Grouping, Part, RowsRuled, RowsEnd, tokens_from, expression_rows, statement_rows, script_rows}
 use Rattle.modes.specs.declared.Mode.TheVariants.{Old, Strict}
 use Rattle.modes.specs.Modes.{by}
-use Rattle.answer.specs.declared.Answer.{Answer}
-use Rattle.answer.specs.declared.Answer.TheVariants.{Accepted, Refused}
-use Rattle.answer.specs.Answer.{Entered, numbers}
+use Rattle.refusals.specs.Refusal.{refusal}
+use Rattle.answer.specs.Answer.{Answer, accepted, Entered, numbers}
 
 -- The number and the values of an entry's answer are those of the definition.
 abbrev pub Numbered : Type 0
@@ -17,7 +16,7 @@ Numbered = (P : Parsed Trees) (r : Answer) (words : ℕ) (ys : List ℕ) → Ent
 
 -- After a refusal every word of the pool is zero.
 abbrev pub ZeroAfter : Type 0
-ZeroAfter = (P : Parsed Trees) (number place words : ℕ) (ys : List ℕ) → Entered P (Refused number place) words ys → ys ≡ replicate words 0
+ZeroAfter = (P : Parsed Trees) (number place words : ℕ) (ys : List ℕ) → Entered P (Err (refusal number place)) words ys → ys ≡ replicate words 0
 
 -- What an accepted answer says was read, so that what is claimed of the definition holds of it.
 pub record Opened (P : Parsed Trees) (root used place : ℕ) : Type 0 where
@@ -28,7 +27,7 @@ pub record Opened (P : Parsed Trees) (root used place : ℕ) : Type 0 where
   pub root_last : root ≡ used
 
 abbrev pub Opens : Type 0
-Opens = (P : Parsed Trees) (root used place words : ℕ) (ys : List ℕ) → Entered P (Accepted root used place) words ys → Opened P root used place
+Opens = (P : Parsed Trees) (root used place words : ℕ) (ys : List ℕ) → Entered P (Ok (accepted root used place)) words ys → Opened P root used place
 
 -- Where a chain is read as its one tree, the entry says so: 0, the root's reference and the rows used, the current place; the tree's rows and zeros.
 abbrev pub ChainsAnswered : Type 0
@@ -49,16 +48,16 @@ RuleAnswered =
 abbrev pub EndsAnswered : Type 0
 EndsAnswered =
     (rules : Rules) (ts : List ℕ) (start room root used place words : ℕ) (ys : List ℕ)
-    → (Entered (one_expression rules ts start room) (Accepted root used place) words ys → RowsEnd ys start used place)
-    × (Entered (one_statement rules ts start room) (Accepted root used place) words ys → RowsEnd ys start used place)
-    × (Entered (whole_script rules ts room) (Accepted root used place) words ys → RowsEnd ys 0 used place)
+    → (Entered (one_expression rules ts start room) (Ok (accepted root used place)) words ys → RowsEnd ys start used place)
+    × (Entered (one_statement rules ts start room) (Ok (accepted root used place)) words ys → RowsEnd ys start used place)
+    × (Entered (whole_script rules ts room) (Ok (accepted root used place)) words ys → RowsEnd ys 0 used place)
 
 -- A row that an entry has left ends at a place exactly where every result of the same call, lent just the rows before it, is the refusal 3 at that place.
 abbrev pub EndTells : ((room : ℕ) → Parsed Trees) → Type 0
 EndTells entry =
-    (root used place words fewer r n : ℕ) (ys zs : List ℕ) (a : Answer) → Entered (entry (rows words)) (Accepted root used place) words ys
+    (root used place words fewer r n : ℕ) (ys zs : List ℕ) (a : Answer) → Entered (entry (rows words)) (Ok (accepted root used place)) words ys
     → Entered (entry (rows fewer)) a fewer zs → 1 ≤ r → r ≤ used → rows fewer ≡ r - 1
-    → (word_of ys r 8 ≡ n → a ≡ Refused NoRow n) × (a ≡ Refused NoRow n → word_of ys r 8 ≡ n)
+    → (word_of ys r 8 ≡ n → a ≡ Err (refusal NoRow n)) × (a ≡ Err (refusal NoRow n) → word_of ys r 8 ≡ n)
 
 -- The same of all three entries.
 abbrev pub EndsToldAnswered : Type 0
@@ -68,7 +67,7 @@ EndsToldAnswered =
 
 -- An entry that is lent so many words has no result that refuses for want of a row.
 abbrev pub NeverFull : ((room : ℕ) → Parsed Trees) → (words : ℕ) → Type 0
-NeverFull entry words = (place : ℕ) (ys : List ℕ) → ¬ Entered (entry (rows words)) (Refused NoRow place) words ys
+NeverFull entry words = (place : ℕ) (ys : List ℕ) → ¬ Entered (entry (rows words)) (Err (refusal NoRow place)) words ys
 
 -- So it is with rows enough, and in the largest pool for every array.
 abbrev pub EnoughAnswered : Type 0
@@ -80,7 +79,7 @@ EnoughAnswered =
 
 -- Of two results the first refuses by this number, or both are the same: the answer and every word of the pool.
 abbrev pub SameUnless : ℕ → (r r' : Answer) (ys ys' : List ℕ) → Type 0
-SameUnless n r r' ys ys' = ((place : ℕ) × (r ≡ Refused n place)) ⊎ ((r ≡ r') × (ys ≡ ys'))
+SameUnless n r r' ys ys' = ((place : ℕ) × (r ≡ Err (refusal n place))) ⊎ ((r ≡ r') × (ys ≡ ys'))
 
 -- So it is of what two entries give for the same input.
 abbrev pub GiveUnless : ℕ → (P Q : Parsed Trees) → Type 0
@@ -97,8 +96,8 @@ StrictAnswered =
 -- What the first entry accepts, the second accepts with the same answer and the same words of the pool.
 abbrev pub AcceptsToo : (P Q : Parsed Trees) → Type 0
 AcceptsToo P Q =
-    (root used place words : ℕ) (ys ys' : List ℕ) (r : Answer) → Entered P (Accepted root used place) words ys → Entered Q r words ys'
-    → (r ≡ Accepted root used place) × (ys' ≡ ys)
+    (root used place words : ℕ) (ys ys' : List ℕ) (r : Answer) → Entered P (Ok (accepted root used place)) words ys → Entered Q r words ys'
+    → (r ≡ Ok (accepted root used place)) × (ys' ≡ ys)
 
 -- What strict mode accepts, the old mode accepts too.
 abbrev pub StrictAccepted : Type 0

@@ -7,9 +7,11 @@ use Rattle.grammar.specs.Words.{class}
 use Rattle.unicode_text.specs.Unicode.{table, begins as led, first as sequence, sequences, well_formed}
 use Rattle.fields.specs.Field.{allowed, unicode, whole, first}
 use Rattle.files.specs.File.{read, refused, before, fields}
-use Rattle.files.specs.Entry.{within, content}
+use Rattle.std.specs.Prelude.{Ok, Err}
+use Rattle.refusals.specs.Refusal.{refusal}
+use Rattle.files.specs.Entry.{within, content, answered}
 use Rattle.payloads.specs.Fields.{NoClass, cut, fields_of}
-use Rattle.payloads.specs.Index.{held, answer, answered, begins, laid, class_by, size_by, payload_by}
+use Rattle.payloads.specs.Index.{held, begins, laid, class_by, size_by, payload_by}
 
 -- the identifier ab and then EOF
 abbrev pub two : List ℕ
@@ -20,7 +22,7 @@ pub two_held : held two ≡ read (1792 ∷ 512 ∷ [])
 unfolding allowed class unicode well_formed sequences sequence table led whole first before fields within content
 two_held = refl
 
-pub two_indexed : (answered (held two) ≡ answer 0 2) × (laid two (held two) ≡ 0 ∷ 5 ∷ replicate 19998 0)
+pub two_indexed : (answered (held two) ≡ Ok 2) × (laid two (held two) ≡ 0 ∷ 5 ∷ replicate 19998 0)
 unfolding begins cut fields_of
 two_indexed = (rw two_held, rw two_held)
 
@@ -53,7 +55,7 @@ pub bad_held : held bad ≡ refused 5 1
 unfolding allowed class unicode whole first before fields within content
 bad_held = refl
 
-pub bad_indexed : (answered (held bad) ≡ answer 5 1) × (laid bad (held bad) ≡ replicate 20000 0)
+pub bad_indexed : (answered (held bad) ≡ Err (refusal 5 1)) × (laid bad (held bad) ≡ replicate 20000 0)
 bad_indexed = (rw bad_held, rw bad_held)
 
 -- so is a Str of a lone byte FF behind EOF, with 33

@@ -1,4 +1,4 @@
--- What a file can hold: the words of its fields, or refusal 6 at place 0, or 5 or 33 at the number of a field.
+-- What a file holds: words, no more of them than it has bytes, or a refusal; and what is answered by it.
 use mathlib.Core.Path.{◌≡◌, refl, ◌∙◌}
 use mathlib.Core.Bool.{Bool, true, false, cond}
 use mathlib.Core.List.{List, [], ◌∷◌}
@@ -7,36 +7,20 @@ use native.Mathlib.Omega.{arith}
 use borrow.Author.Tests.{le-leb}
 use lib.Dec.{leb}
 use lib.ListN.{length}
+use Rattle.std.specs.Prelude.{Result, Ok, Err}
+use Rattle.refusals.specs.declared.Reason.{Reason}
+use Rattle.refusals.specs.Refusal.{Numbered, refusal}
 use Rattle.fields.specs.declared.Field.{Field}
-use Rattle.fields.specs.declared.Field.TheVariants as field
-use Rattle.fields.specs.Field.{BadField, NotUnicode, first}
+use Rattle.fields.specs.Field.{first}
 use Rattle.files.specs.File.{Content, read, refused, TooLong, most, before, fields}
-use Rattle.files.specs.Entry.{within, content}
-use Rattle.files.proofs.Good.{bad_field as bad}
+use Rattle.files.specs.Entry.{within, content, answered}
 use Rattle.files.proofs.Pass.{good_next, bad_next}
-use Rattle.payloads.specs.declared.Indexed.TheVariants.{Fields, Refused}
-use Rattle.payloads.specs.Index.{held, answer, answered}
+use Rattle.payloads.specs.Index.{held}
 
--- the refusals by number and place
-pub data Refusal : (number place : ℕ) → Type 0 where
-  too_long : Refusal TooLong 0
-  bad_field : (number : ℕ) → Refusal BadField number
-  not_unicode : (number : ℕ) → Refusal NotUnicode number
-
--- each is answered as one
-pub as_refused : {number place : ℕ} → Refusal number place → answer number place ≡ Refused number place
-as_refused too_long = refl
-as_refused (bad_field number) = refl
-as_refused (not_unicode number) = refl
-
--- a bad field's is one of two
-pub refusal : (part : List ℕ) {n : ℕ} → first part ≡ field.Refused n → (number : ℕ) → Refusal n number
-refusal part e number = bad part (λ n. Refusal n number) (bad_field number) (not_unicode number) e
-
--- words, no more than so many, or one of the refusals
+-- words, no more than so many, or a refusal
 abbrev pub Given : (room : ℕ) → Content → Type 0
 Given room (read words) = length words ≤ room
-Given room (refused number place) = Refusal number place
+Given room (refused number place) = Unit
 
 before_given : (room w : ℕ) (c : Content) → Given room c → Given (suc room) (before w c)
 unfolding before
@@ -49,9 +33,9 @@ fields_given zero number bytes = omega arith
 fields_given (suc bound) number [] = omega arith
 fields_given (suc bound) number (b ∷ bytes) = go (first (b ∷ bytes)) refl (fields_given bound (suc number))
   where
-    go : (f : Field) → first (b ∷ bytes) ≡ f → ((rest : List ℕ) → Given bound (fields bound (suc number) rest)) → Given (suc bound) (fields (suc bound) number (b ∷ bytes))
-    go (field.Good w width) e k = rw (good_next bound number (b ∷ bytes) (omega arith) e) (before_given bound w _ (k _))
-    go (field.Refused n) e k = rw (bad_next bound number (b ∷ bytes) (omega arith) e) (refusal (b ∷ bytes) e number)
+    go : (r : Result Field Reason) → first (b ∷ bytes) ≡ r → ((rest : List ℕ) → Given bound (fields bound (suc number) rest)) → Given (suc bound) (fields (suc bound) number (b ∷ bytes))
+    go (Ok f) e k = rw (good_next bound number (b ∷ bytes) (omega arith) e) (before_given bound f.word _ (k _))
+    go (Err r) e k = rw (bad_next bound number (b ∷ bytes) (omega arith) e) tt
 
 within_given : (room : ℕ) (c : Content) → Given room c → Given room (within room c)
 unfolding within
@@ -65,7 +49,7 @@ held_given bytes = go (leb (length bytes) most)
   where
     go : (t : Bool) → Given (length bytes) (cond t (within (length bytes) (fields (length bytes) 0 bytes)) (refused TooLong 0))
     go true = within_given (length bytes) _ (fields_given (length bytes) 0 bytes)
-    go false = too_long
+    go false = tt
 
 -- where a count is answered, it is that of the words that the file holds
 pub record Counted (bytes : List ℕ) (count : ℕ) : Type 0 where
@@ -73,20 +57,17 @@ pub record Counted (bytes : List ℕ) (count : ℕ) : Type 0 where
   pub given : held bytes ≡ read words
   pub counted : length words ≡ count
 
-pub counted : (bytes : List ℕ) {count : ℕ} → answered (held bytes) ≡ answer 0 count → Counted bytes count
-counted bytes {count} e = go (held bytes) refl (held_given bytes) e
+pub counted : (bytes : List ℕ) {count : ℕ} → answered (held bytes) ≡ Ok count → Counted bytes count
+counted bytes {count} e = go (held bytes) refl e
   where
-    go : (c : Content) → held bytes ≡ c → Given (length bytes) c → answered c ≡ Fields count → Counted bytes count
-    go (read words) q k f = record { words = words; given = q; counted = cc }
-    go (refused number place) q k f =
-        let s = as_refused k in
-        let z : ◌≡◌ {A = ℕ} 0 1 = cc in
-        absurd (omega arith)
+    go : (c : Content) → held bytes ≡ c → answered c ≡ Ok count → Counted bytes count
+    go (read words) q f = record { words = words; given = q; counted = cc }
+    go (refused number place) q f = let z : ◌≡◌ {A = ℕ} 0 1 = cc in absurd (omega arith)
 
 -- where a refusal is answered, it is the one that the file holds
-pub turned_down : (bytes : List ℕ) {n p : ℕ} → answered (held bytes) ≡ Refused n p → held bytes ≡ refused n p
-turned_down bytes {n} {p} e = go (held bytes) refl (held_given bytes) e
+pub turned_down : (bytes : List ℕ) {e : Numbered} → answered (held bytes) ≡ Err e → held bytes ≡ refused e.number e.place
+turned_down bytes {e} k = go (held bytes) refl k
   where
-    go : (c : Content) → held bytes ≡ c → Given (length bytes) c → answered c ≡ Refused n p → held bytes ≡ refused n p
-    go (read words) q k f = let z : ◌≡◌ {A = ℕ} 0 1 = cc in absurd (omega arith)
-    go (refused number place) q k f = let s = as_refused k in q ∙ cc
+    go : (c : Content) → held bytes ≡ c → answered c ≡ Err e → held bytes ≡ refused e.number e.place
+    go (read words) q f = let z : ◌≡◌ {A = ℕ} 0 1 = cc in absurd (omega arith)
+    go (refused number place) q f = let same : refusal number place ≡ e = cc in q ∙ rw (← same) refl

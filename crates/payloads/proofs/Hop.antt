@@ -4,12 +4,14 @@ use mathlib.Core.List.{List, [], ◌∷◌, ◌++◌, append-nil}
 use Prim.Native.Nat.{ℕ, ◌+◌, ◌-◌, ◌≤◌, ◌<◌}
 use native.Mathlib.Numerals.{add-one}
 use native.Mathlib.Omega.{arith}
-use lib.ListN.{length, drop, set, length-set, length-append, length-drop}
+use lib.ListN.{length, drop, set, length-set, length-append, length-drop, drop_of_length-le}
 use lib.Seq.{drop-cons, append_snoc, set_at}
 use Rattle.fields.specs.Field.{head}
+use Rattle.std.specs.Prelude.{Ok}
 use Rattle.files.specs.File.{most}
+use Rattle.files.specs.Entry.{answered}
 use Rattle.payloads.specs.Fields.{Field, fields_of}
-use Rattle.payloads.specs.Index.{held, answer, answered, begins, size_by, most_fields}
+use Rattle.payloads.specs.Index.{held, begins, size_by, most_fields}
 use Rattle.payloads.proofs.Held.{counted}
 use Rattle.payloads.proofs.Lined.{Lined, end, then, accepted, fields_counted, fields_few}
 use Rattle.payloads.proofs.Lies.{Lies, behind, its_size}
@@ -27,7 +29,7 @@ pub record Hop (bytes index starts : List ℕ) (count at i : ℕ) : Type 0 where
   pub short : length bytes ≤ most
 
 -- it begins with no field behind it
-pub begun : (bytes index : List ℕ) (count : ℕ) → answered (held bytes) ≡ answer 0 count → Hop bytes index index count 0 0
+pub begun : (bytes index : List ℕ) (count : ℕ) → answered (held bytes) ≡ Ok count → Hop bytes index index count 0 0
 begun bytes index count e =
     let c = counted bytes e in
     let a = accepted bytes c.words c.given in
@@ -44,19 +46,19 @@ begun bytes index count e =
     }
 
 -- there are no more fields than the index has room for
-pub few : (bytes : List ℕ) {count : ℕ} → answered (held bytes) ≡ answer 0 count → count ≤ most_fields
+pub few : (bytes : List ℕ) {count : ℕ} → answered (held bytes) ≡ Ok count → count ≤ most_fields
 few bytes e = let c = counted bytes e in omega (arith, fields_few bytes c.words c.given, c.counted)
 
 module _ {bytes index starts : List ℕ} {count at i : ℕ} (hop : Hop bytes index starts count at i) where
-  -- behind the last field all are laid
-  pub ended : count ≤ i → starts ≡ begins 0 (fields_of bytes) ++ drop count index
+  -- behind the last field all are laid, where there is a word for each and no other
+  pub ended : count ≤ i → length index ≡ count → starts ≡ begins 0 (fields_of bytes)
   unfolding begins
-  ended h = go hop.fs hop.left hop.many
+  ended h long = go hop.fs hop.left hop.many
     where
-      go : (fs : List Field) → begins 0 (fields_of bytes) ≡ hop.done ++ begins at fs → i + length fs ≡ count → starts ≡ begins 0 (fields_of bytes) ++ drop count index
+      go : (fs : List Field) → begins 0 (fields_of bytes) ≡ hop.done ++ begins at fs → i + length fs ≡ count → starts ≡ begins 0 (fields_of bytes)
       go [] l m =
-          let same : i ≡ count = omega arith in
-          rw (l, append-nil hop.done, ← same) hop.front
+          let all : drop i index ≡ [] = drop_of_length-le index {i = i} (omega arith) in
+          rw (l, append-nil hop.done) (hop.front ∙ rw (all, append-nil hop.done))
       go (f ∷ fs) l m = absurd (omega arith)
 
   -- a field more

@@ -5,6 +5,7 @@ mod Hop
 mod Room
 mod Lies
 pub mod Held
+pub mod Needed
 pub mod Lined
 pub mod Same
 pub mod LooksUp

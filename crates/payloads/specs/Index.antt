@@ -1,11 +1,9 @@
 -- The index of a file: where each of its fields begins, and what is looked up by it.
-use Rattle.std.specs.Prelude.{ℕ, zero, suc, ◌+◌, ◌*◌, ◌-◌, cond, List, [], ◌∷◌, ◌++◌, ltb, length, take, drop, get_or, replicate}
+use Rattle.std.specs.Prelude.{ℕ, ◌+◌, ◌*◌, ◌-◌, cond, List, [], ◌∷◌, ◌++◌, ltb, length, take, drop, get_or, replicate}
 use Rattle.fields.specs.Field.{head}
 use Rattle.files.specs.File.{Content, read, refused}
 use Rattle.files.specs.Entry.{content}
 use Rattle.payloads.specs.Fields.{Field, NoClass, fields_of}
-use Rattle.payloads.specs.declared.Indexed.{Indexed}
-use Rattle.payloads.specs.declared.Indexed.TheVariants as an
 
 -- The most fields of a file.
 abbrev pub most_fields : ℕ
@@ -14,16 +12,6 @@ most_fields = 20000
 -- What a file holds: the words of its fields, or a refusal. With as many words of room as there are bytes there is always room.
 abbrev pub held : List ℕ → Content
 held bytes = content bytes (length bytes)
-
--- The case for a number and its value: 0 and the count of fields, or a refusal's number and its place.
-abbrev pub answer : ℕ → ℕ → Indexed
-answer zero count = an.Fields count
-answer (suc n) place = an.Refused (suc n) place
-
--- What indexing a file answers.
-abbrev pub answered : Content → Indexed
-answered (read words) = answer 0 (length words)
-answered (refused number place) = answer number place
 
 -- Where fields begin, the first of them at a place.
 unfoldable pub begins : (at : ℕ) → List Field → List ℕ

@@ -13,10 +13,11 @@ use Rattle.payloads.specs.Needs.{needs, placed}
 use Rattle.payloads.proofs.Examples.{two, two_held, bad, bad_held}
 use Rattle.trees.specs.Pool.{In, start}
 use Rattle.trees.specs.Exact.{IsTree}
-use Rattle.trees.proofs.Links.{reached_in}
+use Rattle.trees.proofs.Linked.{reached_in}
 use Rattle.trees.proofs.Exact.{none_bad}
 use Rattle.trees.proofs.Laid.{laid}
-use Rattle.placed.specs.declared.Placed.TheVariants.{Fields, Refused}
+use Rattle.std.specs.Prelude.{Ok, Err}
+use Rattle.refusals.specs.Refusal.{refusal}
 use Rattle.placed.specs.Over.{LowestOf, Wrong, misplaced, Over, bad_file, no_root, wrong_row, a_tree}
 use Rattle.placed.specs.Over as over
 
@@ -53,7 +54,7 @@ unfolding placed needs class_at fields_of cut
 third_not = refl
 
 -- so the row with the first is a tree over the file
-pub good : Over (pool 0) 1 two (Fields 2)
+pub good : Over (pool 0) 1 two (Ok 2)
 good =
     let w = is_tree 0 in
     a_tree (name 0) two_held (one_row 0)
@@ -67,20 +68,20 @@ good =
     none_wrong (misplaced o) = no_both (sym first_placed ∙ o)
 
 -- and the rows with the others are none
-off_place : (p : ℕ) → placed (fields_of two) 2 p ≡ false → Over (pool p) 1 two (Refused 38 1)
+off_place : (p : ℕ) → placed (fields_of two) 2 p ≡ false → Over (pool p) 1 two (Err (refusal 38 1))
 off_place p o =
     wrong_row two_held (one_row p)
     (record { inside = one_row p; reached = start; has = misplaced o; first = λ q h x v. omega (arith, reached_in (one_row p) x) })
 
-pub other_class : Over (pool 1) 1 two (Refused 38 1)
+pub other_class : Over (pool 1) 1 two (Err (refusal 38 1))
 other_class = off_place 1 second_not
 
-pub no_field : Over (pool 2) 1 two (Refused 38 1)
+pub no_field : Over (pool 2) 1 two (Err (refusal 38 1))
 no_field = off_place 2 third_not
 
 -- a root that is no row, and then a file that is refused, which decides alone
-pub rootless : Over (pool 0) 2 two (Refused 38 0)
+pub rootless : Over (pool 0) 2 two (Err (refusal 38 0))
 rootless = no_root two_held (λ i. let e = no_more 0 2 i in omega arith)
 
-pub refused_file : Over (pool 0) 2 bad (Refused 5 1)
+pub refused_file : Over (pool 0) 2 bad (Err (refusal 5 1))
 refused_file = bad_file bad_held

@@ -7,10 +7,10 @@ use mathlib.Core.List.{List}
 use lib.ListN.{length}
 use Rattle.files.specs.File.{Content, read, refused}
 use Rattle.slots.proofs.Either.{less_or}
-use Rattle.trees.proofs.Links.{in_or, one_survey}
+use Rattle.trees.proofs.Linked.{in_or, one_survey}
 use Rattle.trees.proofs.Unique.{one_zero}
-use Rattle.placed.specs.declared.Placed.{Placed}
-use Rattle.placed.specs.declared.Placed.TheVariants as answer
+use Rattle.std.specs.Prelude.{Result, Ok, Err}
+use Rattle.refusals.specs.Refusal.{Numbered, refusal}
 use Rattle.placed.specs.Over.{LowestOf, Over, bad_file, no_root, wrong_row, a_tree}
 use Rattle.placed.specs.Left.{Left}
 
@@ -24,7 +24,7 @@ one_lowest_of {pool} {root} {p} {q} l m =
 not_both : {A : Type 0} {c : Content} {words : List ℕ} {number place : ℕ} → c ≡ refused number place → c ≡ read words → A
 not_both e f = absurd (let z : ◌≡◌ {A = ℕ} 0 1 = cc in omega arith)
 
-pub one_over : {pool bytes : List ℕ} {root : ℕ} {a b : Placed} → Over pool root bytes a → Over pool root bytes b → a ≡ b
+pub one_over : {pool bytes : List ℕ} {root : ℕ} {a b : Result ℕ Numbered} → Over pool root bytes a → Over pool root bytes b → a ≡ b
 one_over (bad_file e) (bad_file f) = cc
 one_over (bad_file e) (no_root f n) = not_both e f
 one_over (bad_file e) (wrong_row f i l) = not_both e f
@@ -35,16 +35,16 @@ one_over (no_root e n) (wrong_row f i l) = absurd (n i)
 one_over (no_root e n) (a_tree t f i g h o) = absurd (n i)
 one_over (wrong_row e i l) (bad_file f) = not_both f e
 one_over (wrong_row e i l) (no_root f n) = absurd (n i)
-one_over (wrong_row e i l) (wrong_row f j m) = ap (λ p. answer.Refused 38 p) (one_lowest_of l m)
+one_over (wrong_row e i l) (wrong_row f j m) = ap (λ p. Err (refusal 38 p)) (one_lowest_of l m)
 one_over (wrong_row {words} {p} e i l) (a_tree t f j g h o) = absurd (g p l.reached l.has)
 one_over (a_tree t e i g h o) (bad_file f) = not_both f e
 one_over (a_tree t e i g h o) (no_root f n) = absurd (n i)
 one_over (a_tree t e i g h o) (wrong_row {words} {p} f j l) = absurd (g p l.reached l.has)
-one_over (a_tree {words} t e i g h o) (a_tree {words = words'} t' f j g' h' o') = let x : words ≡ words' = cc in ap (λ ws. answer.Fields (length ws)) x
+one_over (a_tree {words} t e i g h o) (a_tree {words = words'} t' f j g' h' o') = let x : words ≡ words' = cc in ap (λ ws. Ok (length ws)) x
 
 -- the links that are left are those of one survey, or none where the root is no row
 module _ {pool bytes : List ℕ} {root n : ℕ} where
-  module _ {r r' : Placed} {starts owners words queue starts' owners' words' queue' : List ℕ} (l : Left pool root bytes n r starts owners words queue)
+  module _ {r r' : Result ℕ Numbered} {starts owners words queue starts' owners' words' queue' : List ℕ} (l : Left pool root bytes n r starts owners words queue)
       (m : Left pool root bytes n r' starts' owners' words' queue') where
     same_links : (owners ≡ owners') × (words ≡ words')
     same_links =
@@ -55,7 +55,7 @@ module _ {pool bytes : List ℕ} {root n : ℕ} where
         (one_zero y.0 z.0, one_zero y.1 z.1))
         (in_or pool root)
 
-    pub one_left : ◌≡◌ {A = Placed × List ℕ × List ℕ × List ℕ × List ℕ} (r, starts, owners, words, queue) (r', starts', owners', words', queue')
+    pub one_left : ◌≡◌ {A = Result ℕ Numbered × List ℕ × List ℕ × List ℕ × List ℕ} (r, starts, owners, words, queue) (r', starts', owners', words', queue')
     one_left =
         let e : r ≡ r' = one_over l.verdict m.verdict in
         let s : starts ≡ starts' = l.index ∙ sym m.index in

@@ -1,15 +1,12 @@
 -- What the check's steps find out: whether a row is placed by the file's index, the first row that isn't, and the answer by it.
-use Rattle.std.specs.Prelude.{ℕ, ◌<◌, ◌≡◌, Bool, false, cond, ◌||◌, List, eqb, ltb, get_or}
+use Rattle.std.specs.Prelude.{ℕ, ◌<◌, ◌≡◌, Bool, false, cond, ◌||◌, List, Option, Some, None, Result, Ok, Err, eqb, ltb, get_or}
 use Rattle.grammar.specs.Script.{word_of}
+use Rattle.refusals.specs.Refusal.{Numbered, refusal}
 use Rattle.payloads.specs.Needs.{needs}
 use Rattle.payloads.specs.Index.{class_by}
-use Rattle.trees.specs.declared.Checked.{Checked}
-use Rattle.trees.specs.declared.Checked.TheVariants as checked
 use Rattle.trees.specs.Pool.{In}
 use Rattle.trees.specs.Verdict.{NoTree}
 use Rattle.trees.specs.Leaves.{Leaves}
-use Rattle.placed.specs.declared.Placed.{Placed}
-use Rattle.placed.specs.declared.Placed.TheVariants as answer
 use Rattle.placed.specs.Over.{Over}
 
 module _ (pool : List ℕ) where
@@ -25,16 +22,18 @@ module _ (pool : List ℕ) where
       pub linked : get_or words r 0 ≡ 0 → ⊥
       pub wrong : placed_by bytes starts count r ≡ false
 
-    -- The first such row; 0 for none.
-    pub data FirstMisplaced : ℕ → Type 0 where
-      none : ((q : ℕ) → Misplaced q → ⊥) → FirstMisplaced 0
-      lowest : {r : ℕ} → Misplaced r → ((q : ℕ) → q < r → Misplaced q → ⊥) → FirstMisplaced r
+    -- The first such row.
+    pub data FirstMisplaced : Option ℕ → Type 0 where
+      none : ((q : ℕ) → Misplaced q → ⊥) → FirstMisplaced None
+      lowest : {r : ℕ} → Misplaced r → ((q : ℕ) → q < r → Misplaced q → ⊥) → FirstMisplaced (Some r)
 
   -- An answer that is right for each root for which a survey answers c and leaves these words.
-  abbrev pub Answers : (c : Checked) (words bytes : List ℕ) → Placed → Type 0
+  abbrev pub Answers : (c : Result Unit Numbered) (words bytes : List ℕ) → Result ℕ Numbered → Type 0
   Answers c words bytes r = (root n : ℕ) (owners queue : List ℕ) → Leaves pool root n c owners words queue → Over pool root bytes r
 
 -- The answer of so many fields by the trees' answer and the first misplaced row: of two rows the lower one decides.
-unfoldable pub lower : Checked → (misplaced count : ℕ) → Placed
-lower checked.Tree w count = cond (eqb w 0) (answer.Fields count) (answer.Refused NoTree w)
-lower (checked.Refused number place) w count = answer.Refused number (cond (eqb w 0 || ltb place w) place w)
+unfoldable pub lower : Result Unit Numbered → (misplaced : Option ℕ) → (count : ℕ) → Result ℕ Numbered
+lower (Ok tt) None count = Ok count
+lower (Ok tt) (Some w) count = Err (refusal NoTree w)
+lower (Err e) None count = Err e
+lower (Err e) (Some w) count = cond (ltb e.place w) (Err e) (Err (refusal e.number w))

@@ -8,14 +8,22 @@ use native.Mathlib.Nat.{add-zero}
 use lib.ListN.{length, take, drop}
 use Rattle.grammar.specs.Tree.{Tree, Trees, nil, ◌▸◌, size, head_ref, row, lay, width, ended}
 use Rattle.grammar.specs.Parsed.{Parsed, refused, read, ◌>>=◌, ◌>>◌, need, build, choose}
-use Rattle.answer.specs.declared.Read.{Read}
-use Rattle.answer.specs.declared.Read.TheVariants as the
+use Rattle.std.specs.Prelude.{Result, Ok, Err}
+use Rattle.std.specs.Result.{IsErrAnd}
+use Rattle.std.proofs.lemmas.Result.{err_from_is_err_and}
+use Rattle.refusals.specs.Refusal.{Numbered, refusal}
+use Rattle.answer.specs.declared.Piece.{Piece}
+use Rattle.answer.specs.Answer.{Read, piece}
 use Rattle.reader.specs.Meets.{Stands, Meets, Case, Front, lay_slots, after, four, Ending, one, Bounded, BoundedCase}
 use Rattle.reader.proofs.Slots.{slots_more, after_more, slots_behind, after_behind, slots_four, after_four, root_size, root_laid, root_ended}
 use Rattle.reader.proofs.Fronts.{front_same, front_more, front_eq}
 
-pub not_both : {A : Type 0} (r : Read) (n p k h : ℕ) (c : ℕ) → r ≡ the.Refused n p → r ≡ the.Tree k h c → A
-not_both {A} r n p k h c a b = let z : ◌≡◌ {A = ℕ} 0 1 = cc in let y : ⊥ = omega arith in absurd y
+pub not_both : {A : Type 0} (r : Read) (e : Numbered) (t : Piece) → r ≡ Err e → r ≡ Ok t → A
+not_both {A} r e t a b = let z : ◌≡◌ {A = ℕ} 0 1 = cc in let y : ⊥ = omega arith in absurd y
+
+-- A refusal is told from its number and its place.
+pub same_refusal : {e : Numbered} {n p : ℕ} → e.number ≡ n → e.place ≡ p → e ≡ refusal n p
+same_refusal {e} {n} i j = ap (λ (k : ℕ). refusal k e.place) i ∙ ap (λ (k : ℕ). refusal n k) j
 
 -- What an accepted answer tells.
 pub record Taken {A : Type 0} (slot : A → Trees) (ts : List ℕ) (from : ℕ) (P : Parsed A) (ss : List Trees) (first k h : ℕ) (c : ℕ) (xs ys : List ℕ) : Type 0 where
@@ -25,17 +33,17 @@ pub record Taken {A : Type 0} (slot : A → Trees) (ts : List ℕ) (from : ℕ) 
   pub head : h ≡ head_ref (slot value) (after ss first)
   pub stands : Stands ts from (ss ++ (slot value ∷ [])) first k left xs ys c
 
-pub taken : {A : Type 0} {slot : A → Trees} {ts : List ℕ} {from : ℕ} {P : Parsed A} {ss : List Trees} {first : ℕ} {r : Read} {xs ys : List ℕ} {k h : ℕ} {c : ℕ}
-    → Meets slot ts from P ss first r xs ys → r ≡ the.Tree k h c → Taken slot ts from P ss first k h c xs ys
-taken {A} {slot} {ts} {from} {P} {ss} {first} {r} {xs} {ys} {k} {h} {c} m e = go P m.met
+pub taken : {A : Type 0} {slot : A → Trees} {ts : List ℕ} {from : ℕ} {P : Parsed A} {ss : List Trees} {first : ℕ} {r : Read} {xs ys : List ℕ} {t : Piece}
+    → Meets slot ts from P ss first r xs ys → r ≡ Ok t → Taken slot ts from P ss first t.rows t.head t.next xs ys
+taken {A} {slot} {ts} {from} {P} {ss} {first} {r} {xs} {ys} {t} m e = go P m.met
   where
-    go : (Q : Parsed A) → Case slot ts from Q ss first r xs ys → Taken slot ts from Q ss first k h c xs ys
-    go (refused n p) q = not_both r n p k h c q e
+    go : (Q : Parsed A) → Case slot ts from Q ss first r xs ys → Taken slot ts from Q ss first t.rows t.head t.next xs ys
+    go (refused n p) q = not_both r (refusal n p) t q e
     go (read a at left) g =
-        let s : the.Tree g.rows (head_ref (slot a) (after ss first)) at ≡ the.Tree k h c = sym g.is ∙ e in
-        let rows : g.rows ≡ k = cc in
-        let heads : head_ref (slot a) (after ss first) ≡ h = cc in
-        let place : at ≡ c = cc in
+        let s : ◌≡◌ {A = Read} (Ok (piece g.rows (head_ref (slot a) (after ss first)) at)) (Ok t) = sym g.is ∙ e in
+        let rows : g.rows ≡ t.rows = cc in
+        let heads : head_ref (slot a) (after ss first) ≡ t.head = cc in
+        let place : at ≡ t.next = cc in
         record {
           value = a;
           left = left;
@@ -44,21 +52,20 @@ taken {A} {slot} {ts} {from} {P} {ss} {first} {r} {xs} {ys} {k} {h} {c} m e = go
           stands = rw (← rows, ← place) g.stands;
         }
 
--- The same as a type, by the proofs that it is told from.
-abbrev pub TakenOf : {A : Type 0} {slot : A → Trees} {ts : List ℕ} {from : ℕ} {P : Parsed A} {ss : List Trees} {first : ℕ} {r : Read} {xs ys : List ℕ} {k h : ℕ} {c : ℕ}
-    → Meets slot ts from P ss first r xs ys → r ≡ the.Tree k h c → Type 0
-TakenOf {A} {slot} {ts} {from} {P} {ss} {first} {r} {xs} {ys} {k} {h} {c} m e = Taken slot ts from P ss first k h c xs ys
+-- What the exit of a `?` answers: the refusal as it is.
+pub exit : {A : Type 0} {q : Result A Numbered} {e : Numbered} → IsErrAnd q (λ y. y ≡ e) → q ≡ Err e
+exit {A} {q} h = let p = err_from_is_err_and q h in p.1 ∙ ap Err p.2
 
 -- A refusal is passed on.
-pub pass : {A B : Type 0} {slot : A → Trees} {slot' : B → Trees} {ts : List ℕ} {from : ℕ} {P : Parsed A} {ss : List Trees} {first : ℕ} {r : Read} {xs ys : List ℕ} {n p : ℕ}
-    {ts' : List ℕ} {from' : ℕ} {ss' : List Trees} {first' : ℕ} {xs' ys' : List ℕ} (f : A × ℕ × ℕ → Parsed B)
-    → Meets slot ts from P ss first r xs ys → r ≡ the.Refused n p → Meets slot' ts' from' (P >>= f) ss' first' r xs' ys'
+pub pass : {A B : Type 0} {slot : A → Trees} {slot' : B → Trees} {ts : List ℕ} {from : ℕ} {P : Parsed A} {ss : List Trees} {first : ℕ} {r : Read} {xs ys : List ℕ} {e : Numbered}
+    {ts' : List ℕ} {from' : ℕ} {ss' : List Trees} {first' : ℕ} {q : Read} {xs' ys' : List ℕ} (f : A × ℕ × ℕ → Parsed B)
+    → Meets slot ts from P ss first r xs ys → r ≡ Err e → q ≡ Err e → Meets slot' ts' from' (P >>= f) ss' first' q xs' ys'
 unfolding ◌>>=◌
-pass {A} {B} {slot} {slot'} {ts} {from} {P} {ss} {first} {r} {xs} {ys} {n} {p} {ts'} {from'} {ss'} {first'} {xs'} {ys'} f m e = record { met = go P m.met }
+pass {A} {B} {slot} {slot'} {ts} {from} {P} {ss} {first} {r} {xs} {ys} {e} {ts'} {from'} {ss'} {first'} {q} {xs'} {ys'} f m is out = record { met = go P m.met }
   where
-    go : (Q : Parsed A) → Case slot ts from Q ss first r xs ys → Case slot' ts' from' (Q >>= f) ss' first' r xs' ys'
-    go (refused a b) q = q
-    go (read a at left) g = not_both r n p g.rows (head_ref (slot a) (after ss first)) at e g.is
+    go : (Q : Parsed A) → Case slot ts from Q ss first r xs ys → Case slot' ts' from' (Q >>= f) ss' first' q xs' ys'
+    go (refused a b) g = out ∙ sym is ∙ g
+    go (read a at left) g = not_both r e (piece g.rows (head_ref (slot a) (after ss first)) at) is g.is
 
 -- The definition's value may be put as another.
 pub by_eq : {A : Type 0} {slot : A → Trees} {ts : List ℕ} {from : ℕ} {P Q : Parsed A} {ss : List Trees} {first : ℕ} {r : Read} {xs ys : List ℕ} → P ≡ Q
@@ -78,10 +85,10 @@ abbrev pub starts_after : {A B : Type 0} {X Y : Parsed B} {P : Parsed A} → X �
 starts_after e s = record { rest = s.rest; eq = e ∙ s.eq }
 
 -- It passes the other's refusal on.
-pub pass_on : {A B : Type 0} {slot : A → Trees} {slot' : B → Trees} {ts : List ℕ} {from : ℕ} {X : Parsed B} {P : Parsed A} {ss : List Trees} {first : ℕ} {r : Read} {xs ys : List ℕ} {n p : ℕ}
-    {ts' : List ℕ} {from' : ℕ} {ss' : List Trees} {first' : ℕ} {xs' ys' : List ℕ} → Starts X P
-    → Meets slot ts from P ss first r xs ys → r ≡ the.Refused n p → Meets slot' ts' from' X ss' first' r xs' ys'
-pass_on s m e = by_eq s.eq (pass s.rest m e)
+pub pass_on : {A B : Type 0} {slot : A → Trees} {slot' : B → Trees} {ts : List ℕ} {from : ℕ} {X : Parsed B} {P : Parsed A} {ss : List Trees} {first : ℕ} {r : Read} {xs ys : List ℕ} {e : Numbered}
+    {ts' : List ℕ} {from' : ℕ} {ss' : List Trees} {first' : ℕ} {q : Read} {xs' ys' : List ℕ} → Starts X P
+    → Meets slot ts from P ss first r xs ys → r ≡ Err e → q ≡ Err e → Meets slot' ts' from' X ss' first' q xs' ys'
+pass_on s m is out = by_eq s.eq (pass s.rest m is out)
 
 -- It goes on from what the other reads.
 pub goes : {A B : Type 0} {X : Parsed B} {P : Parsed A} {a : A} {at left : ℕ} (s : Starts X P) → P ≡ read a at left → X ≡ s.rest (a, at, left)
@@ -89,9 +96,9 @@ unfolding ◌>>=◌
 goes s e = s.eq ∙ rw e
 
 -- A refusal of its own.
-pub refuses : {A : Type 0} {slot : A → Trees} {ts : List ℕ} {from : ℕ} {ss : List Trees} {first : ℕ} {xs ys : List ℕ} (P : Parsed A) (n p : ℕ)
-    → P ≡ refused n p → Meets slot ts from P ss first (the.Refused n p) xs ys
-refuses P n p e = by_eq e (record { met = refl })
+pub refuses : {A : Type 0} {slot : A → Trees} {ts : List ℕ} {from : ℕ} {ss : List Trees} {first : ℕ} {e : Numbered} {xs ys : List ℕ} (P : Parsed A) (n p : ℕ)
+    → P ≡ refused n p → e ≡ refusal n p → Meets slot ts from P ss first (Err e) xs ys
+refuses P n p is said = by_eq is (record { met = ap Err said })
 
 -- The steps of a reader.
 pub then_read : {A B : Type 0} {P : Parsed A} {a : A} {at left : ℕ} (f : A × ℕ × ℕ → Parsed B) → P ≡ read a at left → (P >>= f) ≡ f (a, at, left)
@@ -145,7 +152,7 @@ onward s le lt = let o = s.on in record { front = s.front; ends = s.ends; spent 
 -- The row that ends a tree is built, behind what stands before the tree.
 pub built : {ts : List ℕ} {from : ℕ} {ss : List Trees} {first k left : ℕ} {xs ys zs : List ℕ} {at : ℕ} {kind m p c0 c1 c2 c3 : ℕ} {t : Tree} {r : Read} (bs : List Trees)
     → Stands ts from (bs ++ ss) first k left xs ys at → Ending t kind m p ss (after bs first) c0 c1 c2 c3
-    → k < length ys / width → zs ≡ take (width * k) ys ++ (row kind m p c0 c1 c2 c3 0 at ++ drop (width * k + width) ys) → r ≡ the.Tree (k + 1) (first + (k + 1)) at
+    → k < length ys / width → zs ≡ take (width * k) ys ++ (row kind m p c0 c1 c2 c3 0 at ++ drop (width * k + width) ys) → r ≡ Ok (piece (k + 1) (first + (k + 1)) at)
     → Meets one ts from (build t at left) bs first r xs zs
 unfolding build lay
 built {ts} {from} {ss} {first} {k} {left} {xs} {ys} {zs} {at} {kind} {m} {p} {c0} {c1} {c2} {c3} {t} {r} bs s end lt e is = record { met = go left refl }
@@ -172,7 +179,7 @@ built {ts} {from} {ss} {first} {k} {left} {xs} {ys} {zs} {at} {kind} {m} {p} {c0
         ∙ sym (slots_more bs (u ▸ nil) first) in
         record {
           rows = k + 1;
-          is = is ∙ ap (λ (i : ℕ). the.Tree (k + 1) i at) (sym z);
+          is = is ∙ ap (λ (i : ℕ). Ok (piece (k + 1) i at)) (sym z);
           stands = record {
             front = front_eq l fr;
             ends = sym (after_more bs (u ▸ nil) first ∙ ap (λ (i : ℕ). g + i) (add-zero (size u)) ∙ z);
@@ -184,7 +191,7 @@ built {ts} {from} {ss} {first} {k} {left} {xs} {ys} {zs} {at} {kind} {m} {p} {c0
 
 -- There is no row for it.
 pub full : {ts : List ℕ} {from : ℕ} {ss : List Trees} {first k left : ℕ} {xs ys zs : List ℕ} {at : ℕ} {r : Read} (bs : List Trees) (t : Tree)
-    → Stands ts from ss first k left xs ys at → length ys / width ≤ k → r ≡ the.Refused 3 at → Meets one ts from (build t at left) bs first r xs zs
+    → Stands ts from ss first k left xs ys at → length ys / width ≤ k → r ≡ Err (refusal 3 at) → Meets one ts from (build t at left) bs first r xs zs
 unfolding build
 full {ts} {from} {ss} {first} {k} {left} {xs} {ys} {zs} {at} {r} bs t s le is = record { met = go left refl }
   where
@@ -195,27 +202,27 @@ full {ts} {from} {ss} {first} {k} {left} {xs} {ys} {zs} {at} {r} bs t s le is = 
         absurd y
 
 -- The numbers of an answer.
-pub bounded_tree : {ts xs : List ℕ} {at k h : ℕ} {d : ℕ} → width * k ≤ length xs → at ≤ d → d < length ts → Bounded ts xs at (the.Tree k h d)
+pub bounded_tree : {ts xs : List ℕ} {at : ℕ} {t : Piece} → width * t.rows ≤ length xs → at ≤ t.next → t.next < length ts → Bounded ts xs at (Ok t)
 bounded_tree a b c = record { bounded = (a, b, c) }
 
-pub bounded_refused : {ts xs : List ℕ} {at : ℕ} (n p : ℕ) → Bounded ts xs at (the.Refused n p)
-bounded_refused n p = record { bounded = tt }
+pub bounded_refused : {ts xs : List ℕ} {at : ℕ} {e : Numbered} → Bounded ts xs at (Err e)
+bounded_refused = record { bounded = tt }
 
 pub record Bounds (ts xs : List ℕ) (at k : ℕ) (d : ℕ) : Type 0 where
   pub fit : width * k ≤ length xs
   pub on : at ≤ d
   pub within : d < length ts
 
-pub bounds : {ts xs : List ℕ} {at : ℕ} {r : Read} {k h : ℕ} {d : ℕ} → Bounded ts xs at r → r ≡ the.Tree k h d → Bounds ts xs at k d
-bounds {ts} {xs} {at} {r} {k} {h} {d} m e = let b : BoundedCase ts xs at (the.Tree k h d) = rw e at m.bounded in record { fit = b.0; on = b.1; within = b.2 }
+pub bounds : {ts xs : List ℕ} {at : ℕ} {r : Read} {t : Piece} → Bounded ts xs at r → r ≡ Ok t → Bounds ts xs at t.rows t.next
+bounds {ts} {xs} {at} {r} {t} m e = let b : BoundedCase ts xs at (Ok t) = rw e at m.bounded in record { fit = b.0; on = b.1; within = b.2 }
 
 -- An answer from a later place on, into a part as long.
 pub later : {ts xs ys : List ℕ} {at at' : ℕ} {r : Read} → length ys ≡ length xs → at ≤ at' → Bounded ts ys at' r → Bounded ts xs at r
 later {ts} {xs} {ys} {at} {at'} {r} same le m = record { bounded = go r m.bounded }
   where
     go : (q : Read) → BoundedCase ts ys at' q → BoundedCase ts xs at q
-    go (the.Tree k h d) b = let f = b.0 in let o = b.1 in (omega arith, omega arith, b.2)
-    go (the.Refused n p) b = tt
+    go (Ok t) b = let f = b.0 in let o = b.1 in (omega arith, omega arith, b.2)
+    go (Err e) b = tt
 
 -- No list is read yet.
 pub no_list : {ts : List ℕ} {at : ℕ} (first : ℕ) (xs : List ℕ) → at < length ts → Stands ts at (nil ∷ []) first 0 (length xs / width) xs xs at
@@ -227,23 +234,23 @@ pub told : {A : Type 0} {slot : A → Trees} {ts : List ℕ} {from : ℕ} {P : P
     → Meets slot ts from P ss first r xs ys → Meets slot ts from P ss first q xs ys
 told e m = rw e at m
 
-pub bounded_told : {ts xs : List ℕ} {at : ℕ} {r : Read} {n p : ℕ} → r ≡ the.Refused n p → Bounded ts xs at r
-bounded_told {n = n} {p = p} e = rw e (bounded_refused n p)
+pub bounded_told : {ts xs : List ℕ} {at : ℕ} {r : Read} {e : Numbered} → r ≡ Err e → Bounded ts xs at r
+bounded_told is = rw is bounded_refused
 
 -- An empty list was read.
 pub read_none : {ts : List ℕ} {d : ℕ} (first : ℕ) (xs : List ℕ) → d < length ts
-    → Meets (λ us. us) ts d (read nil d (length xs / width)) [] first (the.Tree 0 0 d) xs xs
+    → Meets (λ us. us) ts d (read nil d (length xs / width)) [] first (Ok (piece 0 0 d)) xs xs
 read_none first xs w = record { met = record { rows = 0; is = refl; stands = no_list first xs w } }
 
 -- What stands in the part is the answer.
 pub read_on : {A : Type 0} {slot : A → Trees} {ts : List ℕ} {from : ℕ} {ss : List Trees} {first k h left : ℕ} {xs ys : List ℕ} {d : ℕ} {a : A}
     → h ≡ head_ref (slot a) (after ss first) → Stands ts from (ss ++ (slot a ∷ [])) first k left xs ys d
-    → Meets slot ts from (read a d left) ss first (the.Tree k h d) xs ys
-read_on {k = k} {d = d} e s = record { met = record { rows = k; is = ap (λ (i : ℕ). the.Tree k i d) e; stands = s } }
+    → Meets slot ts from (read a d left) ss first (Ok (piece k h d)) xs ys
+read_on {k = k} {d = d} e s = record { met = record { rows = k; is = ap (λ (i : ℕ). Ok (piece k i d)) e; stands = s } }
 
 -- Nothing more is read behind the slots.
 pub read_nothing : {ts : List ℕ} {from : ℕ} {ss : List Trees} {first k left : ℕ} {xs ys : List ℕ} {d : ℕ} → Stands ts from ss first k left xs ys d
-    → Meets (λ us. us) ts from (read nil d left) ss first (the.Tree k 0 d) xs ys
+    → Meets (λ us. us) ts from (read nil d left) ss first (Ok (piece k 0 d)) xs ys
 unfolding lay
 read_nothing {ss = ss} {first = first} {k = k} s =
     record {

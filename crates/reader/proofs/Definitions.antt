@@ -14,7 +14,7 @@ use Rattle.grammar.specs.Expressions as spec
 use Rattle.modes.specs.declared.Mode.{Mode}
 use Rattle.modes.specs.declared.Due.TheVariants.{Always, By}
 use Rattle.modes.specs.Modes.{by}
-use Rattle.answer.specs.declared.Read.{Read}
+use Rattle.answer.specs.Answer.{Read}
 use Rattle.reader.specs.Promises.{Follows, item, items, closed_list}
 use Rattle.reader.proofs.Answers.{by_eq, choose_true, choose_false, need_met, need_failed, Starts, starts_at, starts_after, goes}
 use Rattle.reader.proofs.Bodies.{closed_then}

@@ -14,8 +14,9 @@ use Rattle.grammar.specs.Rules.{Rules}
 use Rattle.grammar.specs.Expressions as e
 use Rattle.grammar.specs.Statements as s
 use Rattle.words.proofs.Steps.{step_on}
-use Rattle.answer.specs.declared.Read.{Read}
-use Rattle.answer.specs.declared.Read.TheVariants as the
+use Rattle.std.specs.Prelude.{Ok}
+use Rattle.answer.specs.declared.Piece.{Piece}
+use Rattle.answer.specs.Answer.{Read}
 use Rattle.reader.specs.Meets.{Sound}
 use Rattle.reader.specs.Promises.{Begun, BegunCase}
 use Rattle.reader.proofs.Moves.{moves}
@@ -49,9 +50,6 @@ passes {ts} {at} {b} so le w n = go (eqb (tok ts b) EOF) refl
         omega (arith, step_on ts b, ne)
     go false q = omega (arith, moves so w (eqb-false _ _ q))
 
--- A refusal did not begin anything.
-pub begun_told : {ts : List ℕ} {at : ℕ} {r : Read} {n p : ℕ} → r ≡ the.Refused n p → Begun ts at r
-begun_told e = rw e (record { begun = tt })
-
-pub begins : {ts : List ℕ} {at : ℕ} {r : Read} {k h : ℕ} {d : ℕ} → Begun ts at r → r ≡ the.Tree k h d → (tok ts at ≡ EOF) → ⊥
-begins {ts} {at} {r} {k} {h} {d} b e = let q : BegunCase ts at (the.Tree k h d) = rw e at b.begun in q
+-- What began was not at the end.
+pub begins : {ts : List ℕ} {at : ℕ} {r : Read} {t : Piece} → Begun ts at r → r ≡ Ok t → (tok ts at ≡ EOF) → ⊥
+begins {ts} {at} {r} {t} b e = let q : BegunCase ts at (Ok t) = rw e at b.begun in q

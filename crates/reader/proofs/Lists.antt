@@ -9,7 +9,7 @@ use Rattle.grammar.specs.Parsed.{Parsed, refused, read, Reader, Check, met, fail
 use Rattle.grammar.specs.Rules.{Rules}
 use Rattle.grammar.specs.Expressions.{Rec}
 use Rattle.grammar.specs.Statements.{kept, expression_statement}
-use Rattle.answer.specs.declared.Read.{Read}
+use Rattle.answer.specs.Answer.{Read}
 use Rattle.reader.specs.Meets.{Meets, Case, one, many}
 use Rattle.reader.specs.Promises.{around}
 use Rattle.reader.proofs.Answers.{by_eq}

@@ -11,7 +11,8 @@ use borrow.Author.Tests.{eq-eqb, ne_eqb}
 use Rattle.grammar.specs.Tree.{Trees, nil, ◌▸◌, sizes, head_ref, join}
 use Rattle.rows.specs.Rows.{linked}
 use Rattle.grammar.specs.Parsed.{read, Reader, turns}
-use Rattle.answer.specs.declared.Read.TheVariants as the
+use Rattle.std.specs.Prelude.{Ok}
+use Rattle.answer.specs.Answer.{piece}
 use Rattle.reader.specs.Meets.{Stands, Meets, many}
 use Rattle.reader.proofs.Answers.{by_eq, onward}
 use Rattle.reader.proofs.Slots.{some_rows}
@@ -37,13 +38,13 @@ module _ {A : Type 0} {slot : A → Trees} {loop : ℕ → A → Reader A} {ts :
     (s : Turning slot loop ts from a₀ at₀ room₀ first k h xs ys at) where
   -- It stops, and what was read is the answer.
   pub stops : (d : ℕ) → d ≡ at → loop (suc s.fuel) s.value at s.left ≡ read s.value at s.left
-      → Meets slot ts from (loop turns a₀ at₀ room₀) [] first (the.Tree k h d) xs ys
+      → Meets slot ts from (loop turns a₀ at₀ room₀) [] first (Ok (piece k h d)) xs ys
   stops d e q =
       by_eq (s.eq ∙ q)
       (record {
         met = record {
           rows = k;
-          is = ap (λ (i : ℕ). the.Tree k i d) s.head ∙ ap (λ (i : ℕ). the.Tree k (head_ref (slot s.value) first) i) e;
+          is = ap (λ (i : ℕ). Ok (piece k i d)) s.head ∙ ap (λ (i : ℕ). Ok (piece k (head_ref (slot s.value) first) i)) e;
           stands = s.stands;
         };
       })

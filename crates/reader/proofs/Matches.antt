@@ -16,7 +16,9 @@ use Rattle.rows.specs.declared.Flag.{Flag}
 use Rattle.tokens.specs.declared.Token.{Token}
 use Rattle.tokens.specs.Tokens.{word, token}
 use Rattle.tokens.proofs.Round.{word_token}
-use Rattle.answer.specs.declared.Read.TheVariants as the
+use Rattle.std.specs.Prelude.{Ok, Err}
+use Rattle.refusals.specs.Refusal.{Numbered, refusal}
+use Rattle.answer.specs.Answer.{piece}
 use Rattle.reader.specs.Meets.{Ready, Stands, Meets, one}
 use Rattle.reader.proofs.Answers.{refuses, choose_false}
 use Rattle.reader.proofs.Roots.{flagged_size, stands_marked}
@@ -49,10 +51,10 @@ prefixes =
     Identifier ∷ Integer ∷ Float ∷ Char ∷ Str ∷ KTrue ∷ KFalse ∷ KLambda ∷ KNone ∷ KThread ∷ KAsync ∷ SLBox ∷ SLBrace ∷ SIncr ∷ SDecr ∷ SExcl ∷ SNeg ∷ SLParen ∷ SDollar ∷ []
 
 -- The number of the refusal of any other word.
-abbrev refusal : ℕ → ℕ
-refusal w = cond (eqb (class w) Keyword) NotImplemented (cond (eqb (class w) Operator) InvalidSymbol InvalidToken)
+abbrev reason_of : ℕ → ℕ
+reason_of w = cond (eqb (class w) Keyword) NotImplemented (cond (eqb (class w) Operator) InvalidSymbol InvalidToken)
 
-last : (ts : List ℕ) (at room : ℕ) → no_prefix ts at room ≡ refused (refusal (tok ts at)) at
+last : (ts : List ℕ) (at room : ℕ) → no_prefix ts at room ≡ refused (reason_of (tok ts at)) at
 unfolding no_prefix choose
 last ts at room = go (eqb (class (tok ts at)) Keyword) (eqb (class (tok ts at)) Operator)
   where
@@ -65,23 +67,23 @@ last ts at room = go (eqb (class (tok ts at)) Keyword) (eqb (class (tok ts at)) 
 
 -- Whether an expression that begins with the word is refused by this number.
 abbrev pub no_start : ℕ → ℕ → Bool
-no_start n w = none prefixes w && eqb (refusal w) n
+no_start n w = none prefixes w && eqb (reason_of w) n
 
-pub unstarted : {ts : List ℕ} {at first w : ℕ} {xs ys : List ℕ} (rules : Rules) (rec : Rec) (room n : ℕ) → tok ts at ≡ w → no_start n w ≡ true
-    → Meets one ts at (prefix_part rules ts rec at room) [] first (the.Refused n at) xs ys
+pub unstarted : {ts : List ℕ} {at first w : ℕ} {e : Numbered} {xs ys : List ℕ} (rules : Rules) (rec : Rec) (room n : ℕ) → tok ts at ≡ w → no_start n w ≡ true → e ≡ refusal n at
+    → Meets one ts at (prefix_part rules ts rec at room) [] first (Err e) xs ys
 unfolding prefix_part
-unstarted {ts} {at} rules rec room n e h =
-    let both = (and-eq-true_iff (none prefixes (tok ts at)) (eqb (refusal (tok ts at)) n)).0 (rw e h) in
-    refuses _ n at (unmatched _ _ _ at room both.0 ∙ last ts at room ∙ ap (λ (i : ℕ). refused i at) (eqb-true _ n both.1))
+unstarted {ts} {at} rules rec room n is h said =
+    let both = (and-eq-true_iff (none prefixes (tok ts at)) (eqb (reason_of (tok ts at)) n)).0 (rw is h) in
+    refuses _ n at (unmatched _ _ _ at room both.0 ∙ last ts at room ∙ ap (λ (i : ℕ). refused i at) (eqb-true _ n both.1)) said
 
 -- The tree in the first rows, once a flag is set in its row, is the answer.
 pub reads_marked : {ts : List ℕ} {from first k h left : ℕ} {xs ys zs : List ℕ} {d : ℕ} (f : Flag) (t : Tree) → Stands ts from ((t ▸ nil) ∷ []) first k left xs ys d
-    → h ≡ first + size t → zs ≡ marked ys k f → Meets one ts from (read (flagged (bit f) t) d left) [] first (the.Tree k h d) xs zs
+    → h ≡ first + size t → zs ≡ marked ys k f → Meets one ts from (read (flagged (bit f) t) d left) [] first (Ok (piece k h d)) xs zs
 reads_marked {first = first} {k = k} {d = d} f t s eh e =
     record {
       met = record {
         rows = k;
-        is = ap (λ (i : ℕ). the.Tree k i d) (eh ∙ ap (λ (i : ℕ). first + i) (sym (flagged_size (bit f) t)));
+        is = ap (λ (i : ℕ). Ok (piece k i d)) (eh ∙ ap (λ (i : ℕ). first + i) (sym (flagged_size (bit f) t)));
         stands = rw e (stands_marked t s f);
       };
     }

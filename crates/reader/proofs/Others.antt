@@ -1,5 +1,5 @@
 -- The words of the tokens that the `_` arms of the readers of expressions take.
-use Rattle.std.proofs.Common.{ℕ, ◌+◌, ◌*◌, ◌≡◌, true, false, not, refl}
+use Rattle.std.proofs.Common.{◌+◌, ◌*◌, ◌≡◌, true, false, not, refl}
 use borrow.Author.Tests.{ltb-true, not-true}
 use Rattle.grammar.specs.Words.{class, code, codes, by_code, infixes, infix_of, operates}
 use Rattle.tokens.specs.declared.Symbol.{Symbol}

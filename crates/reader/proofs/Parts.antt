@@ -8,8 +8,10 @@ use lib.Seq.{take_all, drop-drop}
 use borrow.Rule.Slice.PartMut.{put_mid, same_len_mid}
 use Rattle.grammar.specs.Tree.{Trees, sizes, lays, head_ref, width}
 use Rattle.grammar.specs.Parsed.{Parsed, refused, read}
-use Rattle.answer.specs.declared.Read.{Read}
-use Rattle.answer.specs.declared.Read.TheVariants as the
+use Rattle.std.specs.Prelude.{Ok}
+use Rattle.refusals.specs.Refusal.{refusal}
+use Rattle.answer.specs.declared.Piece.{Piece}
+use Rattle.answer.specs.Answer.{Read, piece}
 use Rattle.reader.specs.Meets.{Ready, Front, Stands, Meets, Case, lay_slots, after}
 use Rattle.reader.proofs.Fronts.{front_same, front_more, front_eq}
 use Rattle.reader.proofs.Slots.{slots_more, after_more}
@@ -61,26 +63,26 @@ pub room_left : {ts : List ℕ} {from : ℕ} {ss : List Trees} {first k left : �
 room_left {k = k} {ys = ys} s = omega (arith, s.spent, part_length k ys, front_same s.front, s.front.fit)
 
 -- What was read into the part stands behind the slots.
-pub back_read : {A : Type 0} {slot : A → Trees} {ts : List ℕ} {from : ℕ} {P : Parsed A} {ss : List Trees} {first k left : ℕ} {xs ys zs : List ℕ} {at : ℕ} {r : Read} {j h : ℕ} {d : ℕ}
-    → Stands ts from ss first k left xs ys at → Meets slot ts at P [] (first + k) r (part k ys) zs → r ≡ the.Tree j h d
-    → Meets slot ts from P ss first (the.Tree (k + j) h d) xs (back k ys zs)
-back_read {A} {slot} {ts} {from} {P} {ss} {first} {k} {left} {xs} {ys} {zs} {at} {r} {j} {h} {d} s m e = record { met = go P m.met }
+pub back_read : {A : Type 0} {slot : A → Trees} {ts : List ℕ} {from : ℕ} {P : Parsed A} {ss : List Trees} {first k left : ℕ} {xs ys zs : List ℕ} {at : ℕ} {r : Read} {t : Piece}
+    → Stands ts from ss first k left xs ys at → Meets slot ts at P [] (first + k) r (part k ys) zs → r ≡ Ok t
+    → Meets slot ts from P ss first (Ok (piece (k + t.rows) t.head t.next)) xs (back k ys zs)
+back_read {A} {slot} {ts} {from} {P} {ss} {first} {k} {left} {xs} {ys} {zs} {at} {r} {t} s m e = record { met = go P m.met }
   where
-    go : (Q : Parsed A) → Case slot ts at Q [] (first + k) r (part k ys) zs → Case slot ts from Q ss first (the.Tree (k + j) h d) xs (back k ys zs)
-    go (refused n p) q = not_both r n p j h d q e
+    go : (Q : Parsed A) → Case slot ts at Q [] (first + k) r (part k ys) zs → Case slot ts from Q ss first (Ok (piece (k + t.rows) t.head t.next)) xs (back k ys zs)
+    go (refused n p) q = not_both r (refusal n p) t q e
     go (read a at' left') g =
-        let t : Taken slot ts at (read a at' left') [] (first + k) j h d (part k ys) zs = taken (record { met = g }) e in
-        let v : slot t.value ≡ slot a = cc t.eq in
-        let place : at' ≡ d = cc t.eq in
-        let l : left' ≡ t.left = cc t.eq in
-        let g' = t.stands in
+        let q : Taken slot ts at (read a at' left') [] (first + k) t.rows t.head t.next (part k ys) zs = taken (record { met = g }) e in
+        let v : slot q.value ≡ slot a = cc q.eq in
+        let place : at' ≡ t.next = cc q.eq in
+        let l : left' ≡ q.left = cc q.eq in
+        let g' = q.stands in
         let fr = front_part s.front g'.front in
         let ends = s.ends in
-        let eq : lay_slots ss first ++ (lays (slot t.value) (first + k) ++ []) ≡ lay_slots (ss ++ (slot a ∷ [])) first =
+        let eq : lay_slots ss first ++ (lays (slot q.value) (first + k) ++ []) ≡ lay_slots (ss ++ (slot a ∷ [])) first =
         rw (v, append-nil, ends) (sym (slots_more ss (slot a) first)) in
         record {
-          rows = k + j;
-          is = ap (λ (i : ℕ). the.Tree (k + j) i d) (t.head ∙ ap (λ (w : Trees). head_ref w (first + k)) v ∙ ap (head_ref (slot a)) ends) ∙ ap (λ (i : ℕ). the.Tree (k + j) (head_ref (slot a) (after ss first)) i) (sym place);
+          rows = k + t.rows;
+          is = ap (λ (i : ℕ). Ok (piece (k + t.rows) i t.next)) (q.head ∙ ap (λ (w : Trees). head_ref w (first + k)) v ∙ ap (head_ref (slot a)) ends) ∙ ap (λ (i : ℕ). Ok (piece (k + t.rows) (head_ref (slot a) (after ss first)) i)) (sym place);
           stands = record {
             front = front_eq eq fr;
             ends = omega (arith, g'.ends, ends, ap sizes v, after_more ss (slot a) first);
@@ -89,16 +91,6 @@ back_read {A} {slot} {ts} {from} {P} {ss} {first} {k} {left} {xs} {ys} {zs} {at}
             within = rw place g'.within;
           };
         }
-
--- A refusal in the part is the answer.
-pub back_refused : {A : Type 0} {slot : A → Trees} {ts : List ℕ} {at : ℕ} {P : Parsed A} {ss : List Trees} {first : ℕ} {r : Read} {xs ys : List ℕ} {n p : ℕ}
-    {from' : ℕ} {ss' : List Trees} {first' : ℕ} {xs' ys' : List ℕ}
-    → Meets slot ts at P ss first r xs ys → r ≡ the.Refused n p → Meets slot ts from' P ss' first' r xs' ys'
-back_refused {A} {slot} {ts} {at} {P} {ss} {first} {r} {xs} {ys} {n} {p} {from'} {ss'} {first'} {xs'} {ys'} m e = record { met = go P m.met }
-  where
-    go : (Q : Parsed A) → Case slot ts at Q ss first r xs ys → Case slot ts from' Q ss' first' r xs' ys'
-    go (refused a b) q = q
-    go (read a at' left) g = not_both r n p g.rows (head_ref (slot a) (after ss first)) at' e g.is
 
 -- A reader of the part has the rows that are left.
 pub in_part : {A : Type 0} {slot : A → Trees} {ts : List ℕ} {from : ℕ} {ss : List Trees} {first k left : ℕ} {xs ys : List ℕ} {at b f : ℕ} {r : Read} {vs ws : List ℕ} (reader : ℕ → Parsed A)

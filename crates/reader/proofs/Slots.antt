@@ -4,7 +4,7 @@ use mathlib.Core.List.{List, [], ◌∷◌, ◌++◌, append_assoc, append-nil}
 use Prim.Native.Nat.{ℕ, ◌+◌, ◌<◌}
 use native.Mathlib.Omega.{arith}
 use native.Mathlib.Nat.{add-zero}
-use Rattle.grammar.specs.Tree.{Tree, infixed, node, Trees, nil, ◌▸◌, size, sizes, row, lay, lays, ended}
+use Rattle.grammar.specs.Tree.{Tree, infixed, node, Trees, size, sizes, row, lay, lays, ended}
 use Rattle.reader.specs.Meets.{lay_slots, after, four, Root, of_node, of_infix, Refs, Few}
 
 pub some_rows : (t : Tree) → 0 < size t

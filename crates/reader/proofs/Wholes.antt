@@ -18,14 +18,12 @@ use Rattle.grammar.specs.Statements as s
 use Rattle.grammar.specs.Script.{both, array_good, rows, pool, whole_script}
 use Rattle.grammar.proofs.Checks.{both_met, need_met}
 use Rattle.words.proofs.Arrays as arrays
-use Rattle.answer.specs.declared.Answer.{Answer}
-use Rattle.answer.specs.declared.Answer.TheVariants as an
-use Rattle.answer.specs.declared.Read.{Read}
-use Rattle.answer.specs.declared.Start.TheVariants as start
+use Rattle.std.specs.Prelude.{Ok, Err}
+use Rattle.refusals.specs.Refusal.{Numbered}
 use Rattle.reader.specs.Meets.{Sound, Ready, Meets, Case, many}
 use Rattle.reader.specs.declared.Entry.{Entry}
 use Rattle.reader.specs.declared.Entry.TheVariants as what
-use Rattle.answer.specs.Answer.{Entered, ended, ended_pool, checks, start_of}
+use Rattle.answer.specs.Answer.{Read, Answer, Entered, ended, ended_pool, checks, start_of}
 use Rattle.reader.specs.Entries.{reads, enters, script}
 use Rattle.reader.proofs.Lists.{then_assoc}
 
@@ -44,11 +42,11 @@ pub passed : {A : Type 0} {ts : List ℕ} {at : ℕ} (x : Parsed A) → Begins t
 unfolding need ◌>>◌
 passed {ts = ts} {at = at} x b = rw (b.good, lt-ltb at (length ts) b.within)
 
-pub begins : (ts : List ℕ) (at : ℕ) {c : ℕ} → start_of (checks ts at) at ≡ start.At c → Begins ts at × (c ≡ at)
+pub begins : (ts : List ℕ) (at : ℕ) {c : ℕ} → start_of (checks ts at) at ≡ Ok c → Begins ts at × (c ≡ at)
 unfolding checks
 begins ts at {c} e = go (checks ts at) refl e
   where
-    go : (k : Check) → checks ts at ≡ k → start_of k at ≡ start.At c → Begins ts at × (c ≡ at)
+    go : (k : Check) → checks ts at ≡ k → start_of k at ≡ Ok c → Begins ts at × (c ≡ at)
     go met q r =
         let m = both_met (array_good ts) (need (ltb at (length ts)) BadStart 0) q in
         let here : at ≡ c = cc in
@@ -62,16 +60,16 @@ failed_then met met n p x e = let z : ◌≡◌ {A = ℕ} 0 1 = cc in absurd (om
 failed_then met (failed m q) n p x e = cc
 failed_then (failed m q) b n p x e = cc
 
-pub denied : {A : Type 0} (ts : List ℕ) (at : ℕ) {n p : ℕ} (x : Parsed A) → start_of (checks ts at) at ≡ start.Refused n p
-    → (array_good ts >> (need (ltb at (length ts)) BadStart 0 >> x)) ≡ refused n p
+pub denied : {A : Type 0} (ts : List ℕ) (at : ℕ) {e : Numbered} (x : Parsed A) → start_of (checks ts at) at ≡ Err e
+    → (array_good ts >> (need (ltb at (length ts)) BadStart 0 >> x)) ≡ refused e.number e.place
 unfolding checks
-denied {A} ts at {n} {p} x e = go (checks ts at) refl e
+denied {A} ts at {e} x is = go (checks ts at) refl is
   where
-    go : (k : Check) → checks ts at ≡ k → start_of k at ≡ start.Refused n p → (array_good ts >> (need (ltb at (length ts)) BadStart 0 >> x)) ≡ refused n p
+    go : (k : Check) → checks ts at ≡ k → start_of k at ≡ Err e → (array_good ts >> (need (ltb at (length ts)) BadStart 0 >> x)) ≡ refused e.number e.place
     go met q r = let z : ◌≡◌ {A = ℕ} 0 1 = cc in absurd (omega arith)
     go (failed m j) q r =
-        let a : m ≡ n = cc in
-        let b : j ≡ p = cc in
+        let a : m ≡ e.number = cc in
+        let b : j ≡ e.place = cc in
         rw (← a, ← b) (failed_then (array_good ts) (need (ltb at (length ts)) BadStart 0) m j x q)
 
 -- ---- the pool
@@ -177,9 +175,9 @@ finished {r = r} {xs = xs} {zs = zs} n k z e alone same m ea ey =
     }
 
 -- Nothing is read where the start is refused, and the pool is zero.
-pub unread : {P : Parsed Trees} {n p : ℕ} {a : Answer} {ys : List ℕ} (words : ℕ) → P ≡ refused n p → a ≡ an.Refused n p → ys ≡ replicate words 0 → Entered P a words ys
+pub unread : {P : Parsed Trees} {e : Numbered} {a : Answer} {ys : List ℕ} (words : ℕ) → P ≡ refused e.number e.place → a ≡ Err e → ys ≡ replicate words 0 → Entered P a words ys
 unfolding pool
-unread words e ea ey = rw e (record { answer = ea; left = ey })
+unread words is ea ey = rw is (record { answer = ea; left = ey })
 
 -- What an entry reads is alone.
 pub reads_alone : (e : Entry) (rules : Rules) (ts : List ℕ) (at room : ℕ) → Alone (reads e rules ts at room)

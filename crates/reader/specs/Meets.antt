@@ -1,11 +1,11 @@
 -- What a reader asks of its part of the pool, and what it ensures of its answer and of that part.
-use Rattle.std.specs.Prelude.{ℕ, ◌+◌, ◌*◌, ◌-◌, ◌/◌, ◌≤◌, ◌<◌, ◌≡◌, true, List, [], ◌∷◌, ◌++◌, length, drop}
+use Rattle.std.specs.Prelude.{ℕ, ◌+◌, ◌*◌, ◌-◌, ◌/◌, ◌≤◌, ◌<◌, ◌≡◌, true, List, [], ◌∷◌, ◌++◌, length, drop, Ok, Err}
 use Rattle.grammar.specs.Words.{tok, valid, EOF}
 use Rattle.grammar.specs.Tree.{Tree, infixed, node, Trees, nil, ◌▸◌, sizes, lays, head_ref, width}
 use Rattle.grammar.specs.Parsed.{Parsed, refused, read}
 use Rattle.grammar.specs.Script.{largest}
-use Rattle.answer.specs.declared.Read.{Read}
-use Rattle.answer.specs.declared.Read.TheVariants as the
+use Rattle.refusals.specs.Refusal.{refusal}
+use Rattle.answer.specs.Answer.{Read, piece}
 
 -- An array that was checked: not too long, every word valid, EOF last.
 pub record Sound (ts : List ℕ) : Type 0 where
@@ -47,7 +47,7 @@ pub record Stands (ts : List ℕ) (from : ℕ) (slots : List Trees) (first k lef
 -- One more slot was read, and the answer says so.
 pub record Got (ts : List ℕ) (from : ℕ) (slot : Trees) (at left : ℕ) (slots : List Trees) (first : ℕ) (r : Read) (xs ys : List ℕ) : Type 0 where
   pub rows : ℕ
-  pub is : r ≡ the.Tree rows (head_ref slot (after slots first)) at
+  pub is : r ≡ Ok (piece rows (head_ref slot (after slots first)) at)
   pub stands : Stands ts from (slots ++ (slot ∷ [])) first rows left xs ys at
 
 -- What is read stands in a slot: a list as it is, one tree alone.
@@ -59,7 +59,7 @@ one t = t ▸ nil
 
 -- By cases on what the definition gives: the same refusal, or one more slot.
 abbrev pub Case : {A : Type 0} → (A → Trees) → List ℕ → ℕ → Parsed A → List Trees → ℕ → Read → List ℕ → List ℕ → Type 0
-Case slot ts from (refused n q) slots first r xs ys = r ≡ the.Refused n q
+Case slot ts from (refused n q) slots first r xs ys = r ≡ Err (refusal n q)
 Case slot ts from (read a at left) slots first r xs ys = Got ts from (slot a) at left slots first r xs ys
 
 -- The answer of a reader that began behind slots, and its part, are as the definition has them.
@@ -105,8 +105,8 @@ pub record Ending (t : Tree) (kind mark place : ℕ) (slots : List Trees) (first
 
 -- The numbers of an answer fit: its rows are in the part, and its cursor is not before the place and in the array.
 abbrev pub BoundedCase : List ℕ → List ℕ → ℕ → Read → Type 0
-BoundedCase ts xs at (the.Tree k h d) = (width * k ≤ length xs) × (at ≤ d) × (d < length ts)
-BoundedCase ts xs at (the.Refused n p) = Unit {0}
+BoundedCase ts xs at (Ok t) = (width * t.rows ≤ length xs) × (at ≤ t.next) × (t.next < length ts)
+BoundedCase ts xs at (Err e) = Unit {0}
 
 pub record Bounded (ts xs : List ℕ) (at : ℕ) (r : Read) : Type 0 where
   pub bounded : BoundedCase ts xs at r

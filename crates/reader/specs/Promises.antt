@@ -1,5 +1,5 @@
 -- The contracts of the readers, by what stands in their part when they begin.
-use Rattle.std.specs.Prelude.{ℕ, ◌+◌, ◌/◌, ◌≡◌, Bool, true, false, not, ◌||◌, List, [], ◌∷◌, ◌++◌, length, eqb}
+use Rattle.std.specs.Prelude.{ℕ, ◌+◌, ◌/◌, ◌≡◌, Bool, true, false, not, ◌||◌, List, [], ◌∷◌, ◌++◌, length, eqb, Ok, Err}
 use Rattle.grammar.specs.Words.{EOF, Identifier, SLBrace, SSemiColon, KIf, KWhile, KFor, KConst, KVar, KFunc, KTry, KThrow, KForEach, KAssert, Zero, tok, step, is, next_is}
 use Rattle.grammar.specs.Tree.{Tree, node, Trees, nil, ◌▸◌, size, head_ref, width}
 use Rattle.grammar.specs.Parsed.{read, Reader, ◌>>=◌, ◌>>◌, need, choose, build, turns, InvalidIdentifier, ConstWithoutValue}
@@ -8,8 +8,7 @@ use Rattle.grammar.specs.Expressions.{Rec, entries, list_expr, pair}
 use Rattle.grammar.specs.Statements.{value}
 use Rattle.modes.specs.declared.Due.{Due}
 use Rattle.modes.specs.Modes.{comes}
-use Rattle.answer.specs.declared.Read.{Read}
-use Rattle.answer.specs.declared.Read.TheVariants as the
+use Rattle.answer.specs.Answer.{Read}
 use Rattle.reader.specs.Meets.{Stands, Meets, one, many, Ending, Bounded, after}
 
 -- Nothing: the reader has the whole part.
@@ -126,8 +125,8 @@ further w =
 
 -- What was read did not begin at the end.
 abbrev pub BegunCase : List ℕ → ℕ → Read → Type 0
-BegunCase ts at (the.Tree k h d) = (tok ts at ≡ EOF) → ⊥
-BegunCase ts at (the.Refused n p) = Unit {0}
+BegunCase ts at (Ok t) = (tok ts at ≡ EOF) → ⊥
+BegunCase ts at (Err e) = Unit {0}
 
 pub record Begun (ts : List ℕ) (at : ℕ) (r : Read) : Type 0 where
   pub begun : BegunCase ts at r

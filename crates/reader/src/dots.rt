@@ -7,9 +7,10 @@ ghost use Rattle.grammar.specs.Expressions as spec;
 ghost use Rattle.reader.specs.Meets.{Ready, one, many};
 ghost use Rattle.reader.specs.Promises.{Fresh};
 
-use super::names::*;
-use super::part::{first_of, leaf, put_row};
-use answer::Read;
+use super::kind::Kind;
+use super::part::{first_of, leaf, nothing, put_row};
+use answer::{Piece, Read};
+use refusals::{Reason, Refusal};
 use tokens::Symbol;
 use words::Cursor;
 
@@ -18,24 +19,21 @@ fn dots(tokens: &[u16], pool: &mut [u32], first: usize, c: Cursor) -> Read
     requires { Ready tokens.now pool.old first c }
     ensures { Fresh many (spec.dots tokens.now turns nil) tokens.now c first result pool.old pool.new }
 {
-    let mut k: usize = 0;
-    let mut head: u32 = 0;
-    let mut d = c;
-    while words::next_symbol_is(tokens, d, Symbol::SDot) {
-        let e = words::iterate(tokens, words::iterate(tokens, d));
+    let mut all = nothing(c);
+    // The cursor moves by what was read, so no iterator goes over the tokens.
+    while words::next_symbol_is(tokens, all.next, Symbol::SDot) {
+        let e = words::iterate(tokens, words::iterate(tokens, all.next));
         if !words::is_identifier(tokens, e) {
-            return Read::Refused(INVALID_IDENTIFIER, e);
+            return Err(Refusal::new(Reason::InvalidIdentifier, e));
         }
-        let r = put_row(pool, first, k, e, NAME, 0, e, 0, 0, 0, 0);
-        let Read::Tree(m, h, g) = r else {
-            return r;
+        let name = put_row(pool, first, all.rows, e, Kind::Name, 0, e, 0, 0, 0, 0)?;
+        rows::link(pool, all.rows, name.head);
+        all = Piece {
+            head: first_of(all.rows, all.head, name.head),
+            ..name
         };
-        rows::link(pool, k, h);
-        head = first_of(k, head, h);
-        k = m;
-        d = g;
     }
-    Read::Tree(k, head, d)
+    Ok(all)
 }
 
 // parse_dot_expression
@@ -43,17 +41,23 @@ pub fn dot_expression(tokens: &[u16], pool: &mut [u32], first: usize, c: Cursor)
     requires { (Ready tokens.now pool.old first c) × (tok tokens.now c ≡ Identifier) }
     ensures { Fresh one (spec.dot_expression tokens.now) tokens.now c first result pool.old pool.new }
 {
-    let r = leaf(pool, first, c, IDENTIFIER, 0);
-    let Read::Tree(k, h, d) = r else {
-        return r;
-    };
-    if !words::next_symbol_is(tokens, d, Symbol::SDot) {
-        return r;
+    let name = leaf(pool, first, c, Kind::Identifier, 0)?;
+    if !words::next_symbol_is(tokens, name.next, Symbol::SDot) {
+        return Ok(name);
     }
-    let i = rows::end(k as u32);
-    let q = dots(tokens, &mut pool[i..], first + k, d);
-    let Read::Tree(j, g, e) = q else {
-        return q;
-    };
-    put_row(pool, first, k + j, e, ATTRIBUTE, 0, c, h, g, 0, 0)
+    let i = rows::end(name.rows as u32);
+    let names = dots(tokens, &mut pool[i..], first + name.rows, name.next)?;
+    put_row(
+        pool,
+        first,
+        name.rows + names.rows,
+        names.next,
+        Kind::Attribute,
+        0,
+        c,
+        name.head,
+        names.head,
+        0,
+        0,
+    )
 }

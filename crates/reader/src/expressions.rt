@@ -6,18 +6,23 @@ ghost use Rattle.grammar.specs.Parsed.{turns, WrongSign};
 ghost use Rattle.grammar.specs.Expressions as spec;
 ghost use Rattle.tokens.specs.Tokens.{word};
 ghost use Rattle.tokens.specs.declared.Token.TheVariants as token;
+ghost use Rattle.refusals.specs.Reasons.{number};
 ghost use Rattle.rows.specs.Rows.{bit};
 ghost use Rattle.modes.specs.declared.Due.TheVariants as due;
 ghost use Rattle.modes.specs.Modes.{by};
+ghost use Rattle.reader.specs.Kinds.{code};
 ghost use Rattle.reader.specs.Meets.{Ready, one, many};
+ghost use Rattle.reader.specs.Sources.{expr};
 ghost use Rattle.reader.specs.Promises.{Fresh, Behind, Follows, Extends};
 ghost use Rattle.reader.specs.Promises as contract;
 
 use super::dots::dot_expression;
-use super::names::*;
-use super::part::{closed, first_of, is_empty, leaf, passed, put_row};
-use answer::Read;
-use modes::{Due, Mode};
+use super::kind::Kind;
+use super::part::{closed, first_of, is_empty, leaf, nothing, put_row, suffix};
+use super::source::Source;
+use answer::{Piece, Read};
+use modes::Due;
+use refusals::{Reason, Refusal};
 use rows::Flag;
 use tokens::{Keyword, Symbol, Token};
 use words::Cursor;
@@ -25,583 +30,510 @@ use words::Cursor;
 // parse_expression, where `allow` more expressions and statements may be open.
 #[cycle(expressions)]
 pub fn expression(
-    tokens: &[u16],
+    source: &Source,
     pool: &mut [u32],
     first: usize,
     c: Cursor,
     order: usize,
-    mode: Mode,
     allow: usize,
 ) -> Read
-    requires { Ready tokens.now pool.old first c }
-    ensures { Fresh one (spec.expression (by mode) tokens.now allow order) tokens.now c first result pool.old pool.new }
+    requires { Ready source.now.tokens.now pool.old first c }
+    ensures { Fresh one (spec.expression (by source.now.mode) source.now.tokens.now allow order) source.now.tokens.now c first result pool.old pool.new }
 {
     if allow == 0 {
-        return Read::Refused(TOO_DEEP, c);
+        return Err(Refusal::new(Reason::TooDeep, c));
     }
     let less = allow - 1;
-    let r = prefix_part(tokens, pool, first, c, mode, less);
-    let Read::Tree(k, h, d) = r else {
-        return passed(r);
-    };
-    if words::next_symbol_is(tokens, d, Symbol::SSemiColon) {
-        let e = words::iterate(tokens, d);
-        return Read::Tree(k, h, e);
+    let left = prefix_part(source, pool, first, c, less)?;
+    if words::next_symbol_is(source.tokens, left.next, Symbol::SSemiColon) {
+        let e = words::iterate(source.tokens, left.next);
+        return Ok(Piece { next: e, ..left });
     }
-    climb(tokens, pool, first, k, h, d, order, mode, less)
+    climb(source, pool, first, left, order, less)
 }
 
 // The match at the head of parse_expression.
 #[cycle(expressions)]
-fn prefix_part(
-    tokens: &[u16],
-    pool: &mut [u32],
-    first: usize,
-    c: Cursor,
-    mode: Mode,
-    less: usize,
-) -> Read
-    requires { Ready tokens.now pool.old first c }
-    ensures { Fresh one (spec.prefix_part (by mode) tokens.now (spec.expression (by mode) tokens.now less)) tokens.now c first result pool.old pool.new }
+fn prefix_part(source: &Source, pool: &mut [u32], first: usize, c: Cursor, less: usize) -> Read
+    requires { Ready source.now.tokens.now pool.old first c }
+    ensures { Fresh one (spec.prefix_part (by source.now.mode) source.now.tokens.now (expr source.now less)) source.now.tokens.now c first result pool.old pool.new }
 {
-    let t = words::current(tokens, c);
+    let t = words::current(source.tokens, c);
     match t {
-        Token::Identifier => dot_expression(tokens, pool, first, c),
-        Token::Integer => leaf(pool, first, c, INT, 0),
-        Token::Float => leaf(pool, first, c, FLOAT, 0),
-        Token::Char => leaf(pool, first, c, CHAR, 0),
-        Token::Str => leaf(pool, first, c, STRING, 0),
-        Token::Keyword(k) => at_keyword(tokens, pool, first, c, k, mode, less),
-        Token::Operator(s) => at_symbol(tokens, pool, first, c, s, mode, less),
-        _ => Read::Refused(INVALID_TOKEN, c),
+        Token::Identifier => dot_expression(source.tokens, pool, first, c),
+        Token::Integer => leaf(pool, first, c, Kind::Int, 0),
+        Token::Float => leaf(pool, first, c, Kind::Float, 0),
+        Token::Char => leaf(pool, first, c, Kind::Char, 0),
+        Token::Str => leaf(pool, first, c, Kind::String, 0),
+        Token::Keyword(k) => at_keyword(source, pool, first, c, k, less),
+        Token::Operator(s) => at_symbol(source, pool, first, c, s, less),
+        _ => Err(Refusal::new(Reason::InvalidToken, c)),
     }
 }
 
 // The expressions that begin with a keyword.
 #[cycle(expressions)]
 fn at_keyword(
-    tokens: &[u16],
+    source: &Source,
     pool: &mut [u32],
     first: usize,
     c: Cursor,
     k: Keyword,
-    mode: Mode,
     less: usize,
 ) -> Read
-    requires { (Ready tokens.now pool.old first c) × (tok tokens.now c ≡ word (token.Keyword k)) }
-    ensures { Fresh one (spec.prefix_part (by mode) tokens.now (spec.expression (by mode) tokens.now less)) tokens.now c first result pool.old pool.new }
+    requires { (Ready source.now.tokens.now pool.old first c) × (tok source.now.tokens.now c ≡ word (token.Keyword k)) }
+    ensures { Fresh one (spec.prefix_part (by source.now.mode) source.now.tokens.now (expr source.now less)) source.now.tokens.now c first result pool.old pool.new }
 {
     match k {
-        Keyword::KTrue => leaf(pool, first, c, BOOL, 1),
-        Keyword::KFalse => leaf(pool, first, c, BOOL, 0),
-        Keyword::KLambda => lambda(tokens, pool, first, c, mode, less),
-        Keyword::KNone => leaf(pool, first, c, NONE, 0),
-        Keyword::KThread => started(tokens, pool, first, c, Flag::Thread, mode, less),
-        Keyword::KAsync => started(tokens, pool, first, c, Flag::Async, mode, less),
-        _ => Read::Refused(NOT_IMPLEMENTED, c),
+        Keyword::KTrue => leaf(pool, first, c, Kind::Bool, 1),
+        Keyword::KFalse => leaf(pool, first, c, Kind::Bool, 0),
+        Keyword::KLambda => lambda(source, pool, first, c, less),
+        Keyword::KNone => leaf(pool, first, c, Kind::None, 0),
+        Keyword::KThread => started(source, pool, first, c, Flag::Thread, less),
+        Keyword::KAsync => started(source, pool, first, c, Flag::Async, less),
+        _ => Err(Refusal::new(Reason::NotImplemented, c)),
     }
 }
 
 // The expressions that begin with an operator.
 #[cycle(expressions)]
 fn at_symbol(
-    tokens: &[u16],
+    source: &Source,
     pool: &mut [u32],
     first: usize,
     c: Cursor,
     s: Symbol,
-    mode: Mode,
     less: usize,
 ) -> Read
-    requires { (Ready tokens.now pool.old first c) × (tok tokens.now c ≡ word (token.Operator s)) }
-    ensures { Fresh one (spec.prefix_part (by mode) tokens.now (spec.expression (by mode) tokens.now less)) tokens.now c first result pool.old pool.new }
+    requires { (Ready source.now.tokens.now pool.old first c) × (tok source.now.tokens.now c ≡ word (token.Operator s)) }
+    ensures { Fresh one (spec.prefix_part (by source.now.mode) source.now.tokens.now (expr source.now less)) source.now.tokens.now c first result pool.old pool.new }
 {
     match s {
-        Symbol::SLBox => array(tokens, pool, first, c, mode, less),
-        Symbol::SLBrace => hash(tokens, pool, first, c, mode, less),
-        Symbol::SIncr => prefix(tokens, pool, first, c, 0, mode, less),
-        Symbol::SDecr => prefix(tokens, pool, first, c, 1, mode, less),
-        Symbol::SExcl => prefix(tokens, pool, first, c, 2, mode, less),
-        Symbol::SNeg => prefix(tokens, pool, first, c, 3, mode, less),
-        Symbol::SLParen => sub_exp(tokens, pool, first, c, mode, less),
-        Symbol::SDollar => shell(tokens, pool, first, c, mode, less),
-        _ => Read::Refused(INVALID_SYMBOL, c),
+        Symbol::SLBox => array(source, pool, first, c, less),
+        Symbol::SLBrace => hash(source, pool, first, c, less),
+        Symbol::SIncr => prefix(source, pool, first, c, 0, less),
+        Symbol::SDecr => prefix(source, pool, first, c, 1, less),
+        Symbol::SExcl => prefix(source, pool, first, c, 2, less),
+        Symbol::SNeg => prefix(source, pool, first, c, 3, less),
+        Symbol::SLParen => sub_exp(source, pool, first, c, less),
+        Symbol::SDollar => shell(source, pool, first, c, less),
+        _ => Err(Refusal::new(Reason::InvalidSymbol, c)),
     }
 }
 
 // A row of one child, the expression that begins at the cursor.
 #[cycle(expressions)]
 pub fn around(
-    tokens: &[u16],
+    source: &Source,
     pool: &mut [u32],
     first: usize,
     c: Cursor,
-    kind: u32,
+    kind: Kind,
     mark: u32,
     place: usize,
-    mode: Mode,
     less: usize,
 ) -> Read
-    requires { (Ready tokens.now pool.old first c) × (place < 65536) }
-    ensures { Fresh one (contract.around (spec.expression (by mode) tokens.now less) kind mark place) tokens.now c first result pool.old pool.new }
+    requires { (Ready source.now.tokens.now pool.old first c) × (place < 65536) }
+    ensures { Fresh one (contract.around (expr source.now less) (code kind) mark place) source.now.tokens.now c first result pool.old pool.new }
 {
-    let r = expression(tokens, pool, first, c, 0, mode, less);
-    let Read::Tree(k, h, d) = r else {
-        return r;
-    };
-    put_row(pool, first, k, d, kind, mark, place, h, 0, 0, 0)
+    let child = expression(source, pool, first, c, 0, less)?;
+    put_row(
+        pool, first, child.rows, child.next, kind, mark, place, child.head, 0, 0, 0,
+    )
 }
 
 // parse_prefix_expression, by the mark of its operator.
 #[cycle(expressions)]
 fn prefix(
-    tokens: &[u16],
+    source: &Source,
     pool: &mut [u32],
     first: usize,
     c: Cursor,
     mark: u32,
-    mode: Mode,
     less: usize,
 ) -> Read
-    requires { Ready tokens.now pool.old first c }
-    ensures { Fresh one (spec.prefix (by mode) tokens.now (spec.expression (by mode) tokens.now less) mark) tokens.now c first result pool.old pool.new }
+    requires { Ready source.now.tokens.now pool.old first c }
+    ensures { Fresh one (spec.prefix (by source.now.mode) source.now.tokens.now (expr source.now less) mark) source.now.tokens.now c first result pool.old pool.new }
 {
-    let d = words::iterate(tokens, c);
-    around(tokens, pool, first, d, PREFIX, mark, c, mode, less)
+    let d = words::iterate(source.tokens, c);
+    around(source, pool, first, d, Kind::Prefix, mark, c, less)
 }
 
 // parse_shell_expression
 #[cycle(expressions)]
-fn shell(tokens: &[u16], pool: &mut [u32], first: usize, c: Cursor, mode: Mode, less: usize) -> Read
-    requires { Ready tokens.now pool.old first c }
-    ensures { Fresh one (spec.shell (by mode) tokens.now (spec.expression (by mode) tokens.now less)) tokens.now c first result pool.old pool.new }
+fn shell(source: &Source, pool: &mut [u32], first: usize, c: Cursor, less: usize) -> Read
+    requires { Ready source.now.tokens.now pool.old first c }
+    ensures { Fresh one (spec.shell (by source.now.mode) source.now.tokens.now (expr source.now less)) source.now.tokens.now c first result pool.old pool.new }
 {
-    let d = words::iterate(tokens, c);
-    if words::next_symbol_is(tokens, c, Symbol::SDot) {
-        let e = words::iterate(tokens, d);
-        return around(tokens, pool, first, e, SHELL, 1, c, mode, less);
+    let d = words::iterate(source.tokens, c);
+    if words::next_symbol_is(source.tokens, c, Symbol::SDot) {
+        let e = words::iterate(source.tokens, d);
+        return around(source, pool, first, e, Kind::Shell, 1, c, less);
     }
-    around(tokens, pool, first, d, SHELL, 0, c, mode, less)
+    around(source, pool, first, d, Kind::Shell, 0, c, less)
 }
 
 // An expression, or a pair of a hash.
 #[cycle(expressions)]
 fn item(
-    tokens: &[u16],
+    source: &Source,
     pool: &mut [u32],
     first: usize,
     c: Cursor,
     order: usize,
     paired: bool,
-    mode: Mode,
     less: usize,
 ) -> Read
-    requires { Ready tokens.now pool.old first c }
-    ensures { Fresh one (contract.item (by mode) tokens.now (spec.expression (by mode) tokens.now less) order paired) tokens.now c first result pool.old pool.new }
+    requires { Ready source.now.tokens.now pool.old first c }
+    ensures { Fresh one (contract.item (by source.now.mode) source.now.tokens.now (expr source.now less) order paired) source.now.tokens.now c first result pool.old pool.new }
 {
     if paired {
-        return pair(tokens, pool, first, c, mode, less);
+        return pair(source, pool, first, c, less);
     }
-    expression(tokens, pool, first, c, order, mode, less)
+    expression(source, pool, first, c, order, less)
 }
 
-// An item behind the first `rows` rows of the part.
+// An item behind the first `rows` rows of the part. `actual` and, of statements, `one_behind` and `block_behind` do the same for other readers: they
+// stay four functions, since a cycle of calls gets no proof through a closure.
 #[cycle(expressions)]
 pub fn behind(
-    tokens: &[u16],
+    source: &Source,
     pool: &mut [u32],
     first: usize,
     rows: usize,
     c: Cursor,
     order: usize,
     paired: bool,
-    mode: Mode,
     less: usize,
 ) -> Read
-    requires { (Ready tokens.now pool.old first c) × (width * rows ≤ length pool.old) }
-    ensures { Behind one (contract.item (by mode) tokens.now (spec.expression (by mode) tokens.now less) order paired) tokens.now c first rows result pool.old pool.new }
+    requires { (Ready source.now.tokens.now pool.old first c) × (width * rows ≤ length pool.old) }
+    ensures { Behind one (contract.item (by source.now.mode) source.now.tokens.now (expr source.now less) order paired) source.now.tokens.now c first rows result pool.old pool.new }
 {
     let i = rows::end(rows as u32);
-    let r = item(
-        tokens,
-        &mut pool[i..],
-        first + rows,
-        c,
-        order,
-        paired,
-        mode,
-        less,
-    );
-    let Read::Tree(k, h, d) = r else {
-        return r;
-    };
-    Read::Tree(rows + k, h, d)
+    let one = item(source, &mut pool[i..], first + rows, c, order, paired, less)?;
+    Ok(Piece {
+        rows: rows + one.rows,
+        ..one
+    })
 }
 
 // The entries of a list behind the first: the loops of parse_list_expr and parse_hash_literal.
 #[cycle(expressions)]
 fn entries(
-    tokens: &[u16],
+    source: &Source,
     pool: &mut [u32],
     first: usize,
-    rows: usize,
-    head: u32,
-    c: Cursor,
+    front: Piece,
     paired: bool,
-    mode: Mode,
     less: usize,
 ) -> Read
-    requires { (Ready tokens.now pool.old first c) × (width * rows ≤ length pool.old) }
-    ensures { Extends (spec.entries (by mode) tokens.now (spec.expression (by mode) tokens.now less) (contract.item (by mode) tokens.now (spec.expression (by mode) tokens.now less) 0 paired) turns) tokens.now c first rows head result pool.old pool.new }
+    requires { (Ready source.now.tokens.now pool.old first front.next) × (width * front.rows ≤ length pool.old) }
+    ensures { Extends (spec.entries (by source.now.mode) source.now.tokens.now (expr source.now less) (contract.item (by source.now.mode) source.now.tokens.now (expr source.now less) 0 paired) turns) source.now.tokens.now front.next first front.rows front.head result pool.old pool.new }
 {
-    let mut k = rows;
-    let mut h = head;
-    let mut d = c;
-    while words::next_symbol_is(tokens, d, Symbol::SComma) {
-        let e = words::iterate(tokens, words::iterate(tokens, d));
-        let r = behind(tokens, pool, first, k, e, 0, paired, mode, less);
-        let Read::Tree(m, g, f) = r else {
-            return r;
+    let mut all = front;
+    // The cursor moves by what was read, so no iterator goes over the tokens.
+    while words::next_symbol_is(source.tokens, all.next, Symbol::SComma) {
+        let e = words::iterate(source.tokens, words::iterate(source.tokens, all.next));
+        let one = behind(source, pool, first, all.rows, e, 0, paired, less)?;
+        rows::link(pool, all.rows, one.head);
+        all = Piece {
+            head: first_of(all.rows, all.head, one.head),
+            ..one
         };
-        rows::link(pool, k, g);
-        h = first_of(k, h, g);
-        k = m;
-        d = f;
     }
-    Read::Tree(k, h, d)
+    Ok(all)
 }
 
 // parse_list_expr; or the pairs of a hash, behind its sign.
 #[cycle(expressions)]
 fn list(
-    tokens: &[u16],
+    source: &Source,
     pool: &mut [u32],
     first: usize,
     c: Cursor,
     paired: bool,
-    mode: Mode,
     less: usize,
 ) -> Read
-    requires { Ready tokens.now pool.old first c }
-    ensures { Fresh many (contract.items (by mode) tokens.now (spec.expression (by mode) tokens.now less) paired) tokens.now c first result pool.old pool.new }
+    requires { Ready source.now.tokens.now pool.old first c }
+    ensures { Fresh many (contract.items (by source.now.mode) source.now.tokens.now (expr source.now less) paired) source.now.tokens.now c first result pool.old pool.new }
 {
-    if is_empty(tokens, c, paired) {
-        return Read::Tree(0, 0, c);
+    if is_empty(source.tokens, c, paired) {
+        return Ok(nothing(c));
     }
-    let e = words::iterate(tokens, c);
-    let r = behind(tokens, pool, first, 0, e, 0, paired, mode, less);
-    let Read::Tree(k, h, d) = r else {
-        return r;
-    };
-    entries(tokens, pool, first, k, h, d, paired, mode, less)
+    let e = words::iterate(source.tokens, c);
+    let one = behind(source, pool, first, 0, e, 0, paired, less)?;
+    entries(source, pool, first, one, paired, less)
 }
 
-// A list and its closing sign, which comes next where it is due, or else the refusal `number`.
+// A list and its closing sign, which comes next where it is due, or else the refusal for `reason`.
 #[cycle(expressions)]
 pub fn enclosed(
-    tokens: &[u16],
+    source: &Source,
     pool: &mut [u32],
     first: usize,
     c: Cursor,
     paired: bool,
     close: Symbol,
     due: Due,
-    number: u32,
-    mode: Mode,
+    reason: Reason,
     less: usize,
 ) -> Read
-    requires { Ready tokens.now pool.old first c }
-    ensures { Fresh many (contract.closed_list due (by mode) tokens.now (spec.expression (by mode) tokens.now less) paired (word (token.Operator close)) number) tokens.now c first result pool.old pool.new }
+    requires { Ready source.now.tokens.now pool.old first c }
+    ensures { Fresh many (contract.closed_list due (by source.now.mode) source.now.tokens.now (expr source.now less) paired (word (token.Operator close)) (number reason)) source.now.tokens.now c first result pool.old pool.new }
 {
-    let r = list(tokens, pool, first, c, paired, mode, less);
-    let Read::Tree(k, h, d) = r else {
-        return r;
-    };
-    if !modes::comes(tokens, d, close, due) {
-        return Read::Refused(number, d);
+    let members = list(source, pool, first, c, paired, less)?;
+    if !modes::comes(source.tokens, members.next, close, due) {
+        return Err(Refusal::new(reason, members.next));
     }
-    let e = words::iterate(tokens, d);
-    Read::Tree(k, h, e)
+    let e = words::iterate(source.tokens, members.next);
+    Ok(Piece { next: e, ..members })
 }
 
 // parse_pair
 #[cycle(expressions)]
-fn pair(tokens: &[u16], pool: &mut [u32], first: usize, c: Cursor, mode: Mode, less: usize) -> Read
-    requires { Ready tokens.now pool.old first c }
-    ensures { Fresh one (spec.pair (by mode) tokens.now (spec.expression (by mode) tokens.now less)) tokens.now c first result pool.old pool.new }
+fn pair(source: &Source, pool: &mut [u32], first: usize, c: Cursor, less: usize) -> Read
+    requires { Ready source.now.tokens.now pool.old first c }
+    ensures { Fresh one (spec.pair (by source.now.mode) source.now.tokens.now (expr source.now less)) source.now.tokens.now c first result pool.old pool.new }
 {
-    let r = expression(tokens, pool, first, c, 0, mode, less);
-    let Read::Tree(k, h, d) = r else {
-        return r;
-    };
-    let e = words::iterate(tokens, d);
-    if !words::next_symbol_is(tokens, d, Symbol::SColon) {
-        return Read::Refused(EXPECTED_COLON, d);
+    let key = expression(source, pool, first, c, 0, less)?;
+    let e = words::iterate(source.tokens, key.next);
+    if !words::next_symbol_is(source.tokens, key.next, Symbol::SColon) {
+        return Err(Refusal::new(Reason::ExpectedColon, key.next));
     }
-    let v = words::iterate(tokens, e);
-    let q = behind(tokens, pool, first, k, v, 0, false, mode, less);
-    let Read::Tree(m, g, f) = q else {
-        return q;
-    };
-    put_row(pool, first, m, f, PAIR, 0, e, h, g, 0, 0)
+    let v = words::iterate(source.tokens, e);
+    let value = behind(source, pool, first, key.rows, v, 0, false, less)?;
+    put_row(
+        pool,
+        first,
+        value.rows,
+        value.next,
+        Kind::Pair,
+        0,
+        e,
+        key.head,
+        value.head,
+        0,
+        0,
+    )
 }
 
 // parse_hash_literal
 #[cycle(expressions)]
-fn hash(tokens: &[u16], pool: &mut [u32], first: usize, c: Cursor, mode: Mode, less: usize) -> Read
-    requires { Ready tokens.now pool.old first c }
-    ensures { Fresh one (spec.hash_literal (by mode) tokens.now (spec.expression (by mode) tokens.now less)) tokens.now c first result pool.old pool.new }
+fn hash(source: &Source, pool: &mut [u32], first: usize, c: Cursor, less: usize) -> Read
+    requires { Ready source.now.tokens.now pool.old first c }
+    ensures { Fresh one (spec.hash_literal (by source.now.mode) source.now.tokens.now (expr source.now less)) source.now.tokens.now c first result pool.old pool.new }
 {
-    let d = words::iterate(tokens, c);
-    if words::next_symbol_is(tokens, c, Symbol::SRBrace) {
-        return put_row(pool, first, 0, d, HASH, 0, c, 0, 0, 0, 0);
+    let d = words::iterate(source.tokens, c);
+    if words::next_symbol_is(source.tokens, c, Symbol::SRBrace) {
+        return put_row(pool, first, 0, d, Kind::Hash, 0, c, 0, 0, 0, 0);
     }
-    let r = enclosed(
-        tokens,
+    let pairs = enclosed(
+        source,
         pool,
         first,
         c,
         true,
         Symbol::SRBrace,
         Due::Always,
-        HASH_NOT_TERMINATED,
-        mode,
+        Reason::HashNotTerminated,
         less,
-    );
-    let Read::Tree(k, h, e) = r else {
-        return r;
-    };
-    put_row(pool, first, k, e, HASH, 0, c, h, 0, 0, 0)
+    )?;
+    put_row(
+        pool,
+        first,
+        pairs.rows,
+        pairs.next,
+        Kind::Hash,
+        0,
+        c,
+        pairs.head,
+        0,
+        0,
+        0,
+    )
 }
 
-// parse_array_expression
+// parse_array_expression. It is like `hash`, but each stands for its function of the original, and one contract for both would name both.
 #[cycle(expressions)]
-fn array(tokens: &[u16], pool: &mut [u32], first: usize, c: Cursor, mode: Mode, less: usize) -> Read
-    requires { Ready tokens.now pool.old first c }
-    ensures { Fresh one (spec.array (by mode) tokens.now (spec.expression (by mode) tokens.now less)) tokens.now c first result pool.old pool.new }
+fn array(source: &Source, pool: &mut [u32], first: usize, c: Cursor, less: usize) -> Read
+    requires { Ready source.now.tokens.now pool.old first c }
+    ensures { Fresh one (spec.array (by source.now.mode) source.now.tokens.now (expr source.now less)) source.now.tokens.now c first result pool.old pool.new }
 {
-    if words::next_symbol_is(tokens, c, Symbol::SRBox) {
-        return put_row(
-            pool,
-            first,
-            0,
-            words::iterate(tokens, c),
-            ARRAY,
-            0,
-            c,
-            0,
-            0,
-            0,
-            0,
-        );
+    let d = words::iterate(source.tokens, c);
+    if words::next_symbol_is(source.tokens, c, Symbol::SRBox) {
+        return put_row(pool, first, 0, d, Kind::Array, 0, c, 0, 0, 0, 0);
     }
-    let r = enclosed(
-        tokens,
+    let values = enclosed(
+        source,
         pool,
         first,
         c,
         false,
         Symbol::SRBox,
         Due::Always,
-        ARRAY_NOT_TERMINATED,
-        mode,
+        Reason::ArrayNotTerminated,
         less,
-    );
-    let Read::Tree(k, h, d) = r else {
-        return r;
-    };
-    put_row(pool, first, k, d, ARRAY, 0, c, h, 0, 0, 0)
+    )?;
+    put_row(
+        pool,
+        first,
+        values.rows,
+        values.next,
+        Kind::Array,
+        0,
+        c,
+        values.head,
+        0,
+        0,
+        0,
+    )
 }
 
 // parse_lambda_exp
 #[cycle(expressions)]
-fn lambda(
-    tokens: &[u16],
-    pool: &mut [u32],
-    first: usize,
-    c: Cursor,
-    mode: Mode,
-    less: usize,
-) -> Read
-    requires { Ready tokens.now pool.old first c }
-    ensures { Fresh one (spec.lambda (by mode) tokens.now (spec.expression (by mode) tokens.now less)) tokens.now c first result pool.old pool.new }
+fn lambda(source: &Source, pool: &mut [u32], first: usize, c: Cursor, less: usize) -> Read
+    requires { Ready source.now.tokens.now pool.old first c }
+    ensures { Fresh one (spec.lambda (by source.now.mode) source.now.tokens.now (expr source.now less)) source.now.tokens.now c first result pool.old pool.new }
 {
-    if words::next_symbol_is(tokens, c, Symbol::SSemiColon) {
-        return Read::Refused(INVALID_SYNTAX, c);
+    if words::next_symbol_is(source.tokens, c, Symbol::SSemiColon) {
+        return Err(Refusal::new(Reason::InvalidSyntax, c));
     }
-    if words::next_symbol_is(tokens, c, Symbol::SImpl) {
-        return Read::Refused(NO_PARAMETERS, c);
+    if words::next_symbol_is(source.tokens, c, Symbol::SImpl) {
+        return Err(Refusal::new(Reason::NoParameters, c));
     }
-    let r = enclosed(
-        tokens,
+    let parameters = enclosed(
+        source,
         pool,
         first,
         c,
         false,
         Symbol::SImpl,
         Due::Always,
-        EXPECTED_ARROW,
-        mode,
+        Reason::ExpectedArrow,
         less,
-    );
-    let Read::Tree(k, h, d) = r else {
-        return r;
-    };
-    let e = words::iterate(tokens, d);
-    let q = behind(tokens, pool, first, k, e, 0, false, mode, less);
-    let Read::Tree(m, g, f) = q else {
-        return q;
-    };
-    put_row(pool, first, m, f, LAMBDA, 0, c, h, g, 0, 0)
+    )?;
+    let e = words::iterate(source.tokens, parameters.next);
+    let inner = behind(source, pool, first, parameters.rows, e, 0, false, less)?;
+    put_row(
+        pool,
+        first,
+        inner.rows,
+        inner.next,
+        Kind::Lambda,
+        0,
+        c,
+        parameters.head,
+        inner.head,
+        0,
+        0,
+    )
 }
 
 // parse_thread_exp and parse_async_expr, by the flag that they set.
 #[cycle(expressions)]
 fn started(
-    tokens: &[u16],
+    source: &Source,
     pool: &mut [u32],
     first: usize,
     c: Cursor,
     flag: Flag,
-    mode: Mode,
     less: usize,
 ) -> Read
-    requires { Ready tokens.now pool.old first c }
-    ensures { Fresh one (spec.started (by mode) tokens.now (spec.expression (by mode) tokens.now less) (bit flag)) tokens.now c first result pool.old pool.new }
+    requires { Ready source.now.tokens.now pool.old first c }
+    ensures { Fresh one (spec.started (by source.now.mode) source.now.tokens.now (expr source.now less) (bit flag)) source.now.tokens.now c first result pool.old pool.new }
 {
-    let e = words::iterate(tokens, c);
-    let r = expression(tokens, pool, first, e, 0, mode, less);
-    let Read::Tree(k, _, d) = r else {
-        return r;
-    };
-    if rows::word(pool, k, rows::KIND) != CALL {
-        return Read::Refused(NOT_CALLABLE, d);
+    let e = words::iterate(source.tokens, c);
+    let child = expression(source, pool, first, e, 0, less)?;
+    if rows::word(pool, child.rows, rows::KIND) != Kind::Call.code() {
+        return Err(Refusal::new(Reason::NotCallable, child.next));
     }
-    rows::mark(pool, k, flag);
-    r
+    rows::mark(pool, child.rows, flag);
+    Ok(child)
 }
 
 // parse_sub_expression
 #[cycle(expressions)]
-fn sub_exp(
-    tokens: &[u16],
-    pool: &mut [u32],
-    first: usize,
-    c: Cursor,
-    mode: Mode,
-    less: usize,
-) -> Read
-    requires { Ready tokens.now pool.old first c }
-    ensures { Fresh one (spec.sub_expression (by mode) tokens.now (spec.expression (by mode) tokens.now less)) tokens.now c first result pool.old pool.new }
+fn sub_exp(source: &Source, pool: &mut [u32], first: usize, c: Cursor, less: usize) -> Read
+    requires { Ready source.now.tokens.now pool.old first c }
+    ensures { Fresh one (spec.sub_expression (by source.now.mode) source.now.tokens.now (expr source.now less)) source.now.tokens.now c first result pool.old pool.new }
 {
-    let d = words::iterate(tokens, c);
-    if words::next_symbol_is(tokens, d, Symbol::SRparen) {
-        return Read::Refused(INVALID_SYNTAX, d);
+    let d = words::iterate(source.tokens, c);
+    if words::next_symbol_is(source.tokens, d, Symbol::SRparen) {
+        return Err(Refusal::new(Reason::InvalidSyntax, d));
     }
-    let r = expression(tokens, pool, first, d, 0, mode, less);
-    let Read::Tree(k, h, e) = r else {
-        return r;
-    };
-    if !words::next_symbol_is(tokens, e, Symbol::SRparen) {
-        return Read::Refused(INVALID_SYNTAX, e);
+    let child = expression(source, pool, first, d, 0, less)?;
+    if !words::next_symbol_is(source.tokens, child.next, Symbol::SRparen) {
+        return Err(Refusal::new(Reason::InvalidSyntax, child.next));
     }
-    rows::mark(pool, k, Flag::Grouped);
-    Read::Tree(k, h, words::iterate(tokens, e))
+    rows::mark(pool, child.rows, Flag::Grouped);
+    Ok(Piece {
+        next: words::iterate(source.tokens, child.next),
+        ..child
+    })
 }
 
-// The loop of parse_expression, above an order and behind what stands in the first `rows` rows.
+// The loop of parse_expression, above an order and behind the left side that was read.
 #[cycle(expressions)]
 fn climb(
-    tokens: &[u16],
+    source: &Source,
     pool: &mut [u32],
     first: usize,
-    rows: usize,
-    head: u32,
-    c: Cursor,
+    left: Piece,
     order: usize,
-    mode: Mode,
     less: usize,
 ) -> Read
-    requires { (Ready tokens.now pool.old first c) × (width * rows ≤ length pool.old) }
-    ensures { Follows (spec.climb (by mode) tokens.now (spec.expression (by mode) tokens.now less) order turns) tokens.now c first rows head result pool.old pool.new }
+    requires { (Ready source.now.tokens.now pool.old first left.next) × (width * left.rows ≤ length pool.old) }
+    ensures { Follows (spec.climb (by source.now.mode) source.now.tokens.now (expr source.now less) order turns) source.now.tokens.now left.next first left.rows left.head result pool.old pool.new }
 {
-    let mut k = rows;
-    let mut h = head;
-    let mut d = c;
-    while orders::goes_on(order, words::next(tokens, d)) {
-        let at = words::iterate(tokens, d);
-        let r = operation(tokens, pool, first, k, h, at, mode, less);
-        let Read::Tree(m, g, e) = r else {
-            return passed(r);
-        };
-        k = m;
-        h = g;
-        d = e;
+    let mut tree = left;
+    // The cursor moves by what was read, here too.
+    while orders::goes_on(order, words::next(source.tokens, tree.next)) {
+        let at = words::iterate(source.tokens, tree.next);
+        tree = operation(source, pool, first, Piece { next: at, ..tree }, less)?;
     }
-    Read::Tree(k, h, d)
+    Ok(tree)
 }
 
-// What an operator does behind its left side: the branches in the loop of parse_expression.
+// What an operator does behind its left side, whose cursor is at the operator: the branches in the loop of parse_expression.
 // `climb` comes here with operators only, so the first branch is never taken; `infix_exp` has one caller, and is compiled into it.
 #[cycle(expressions)]
-fn operation(
-    tokens: &[u16],
-    pool: &mut [u32],
-    first: usize,
-    rows: usize,
-    head: u32,
-    c: Cursor,
-    mode: Mode,
-    less: usize,
-) -> Read
-    requires { (Ready tokens.now pool.old first c) × (width * rows ≤ length pool.old) × (operates (tok tokens.now c) ≡ true) }
-    ensures { Follows (spec.operation (by mode) tokens.now (spec.expression (by mode) tokens.now less)) tokens.now c first rows head result pool.old pool.new }
+fn operation(source: &Source, pool: &mut [u32], first: usize, left: Piece, less: usize) -> Read
+    requires { (Ready source.now.tokens.now pool.old first left.next) × (width * left.rows ≤ length pool.old) × (operates (tok source.now.tokens.now left.next) ≡ true) }
+    ensures { Follows (spec.operation (by source.now.mode) source.now.tokens.now (expr source.now less)) source.now.tokens.now left.next first left.rows left.head result pool.old pool.new }
 {
-    let t = words::current(tokens, c);
+    let t = words::current(source.tokens, left.next);
     let Token::Operator(s) = t else {
-        return Read::Refused(INVALID_TOKEN, c);
+        return Err(Refusal::new(Reason::InvalidToken, left.next));
     };
     match s {
-        Symbol::SIncr => put_row(pool, first, rows, c, SUFFIX, 0, c, head, 0, 0, 0),
-        Symbol::SDecr => put_row(pool, first, rows, c, SUFFIX, 1, c, head, 0, 0, 0),
-        Symbol::SLParen => call(tokens, pool, first, rows, head, c, mode, less),
-        Symbol::SLBox => index(tokens, pool, first, rows, head, c, mode, less),
-        _ => infix_exp(tokens, pool, first, rows, head, c, mode, less),
+        Symbol::SIncr => suffix(pool, first, left, 0),
+        Symbol::SDecr => suffix(pool, first, left, 1),
+        Symbol::SLParen => call(source, pool, first, left, less),
+        Symbol::SLBox => index(source, pool, first, left, less),
+        _ => infix_exp(source, pool, first, left, less),
     }
 }
 
 // parse_infix_expression
 #[cycle(expressions)]
-fn infix_exp(
-    tokens: &[u16],
-    pool: &mut [u32],
-    first: usize,
-    rows: usize,
-    head: u32,
-    c: Cursor,
-    mode: Mode,
-    less: usize,
-) -> Read
-    requires { (Ready tokens.now pool.old first c) × (width * rows ≤ length pool.old) }
-    ensures { Follows (spec.infix_expression (by mode) tokens.now (spec.expression (by mode) tokens.now less)) tokens.now c first rows head result pool.old pool.new }
+fn infix_exp(source: &Source, pool: &mut [u32], first: usize, left: Piece, less: usize) -> Read
+    requires { (Ready source.now.tokens.now pool.old first left.next) × (width * left.rows ≤ length pool.old) }
+    ensures { Follows (spec.infix_expression (by source.now.mode) source.now.tokens.now (expr source.now less)) source.now.tokens.now left.next first left.rows left.head result pool.old pool.new }
 {
-    let t = words::current(tokens, c);
-    let d = words::iterate(tokens, c);
+    let t = words::current(source.tokens, left.next);
+    let d = words::iterate(source.tokens, left.next);
     let order = orders::order_of(t);
-    let r = behind(tokens, pool, first, rows, d, order, false, mode, less);
-    let Read::Tree(k, h, e) = r else {
-        return r;
-    };
+    let right = behind(source, pool, first, left.rows, d, order, false, less)?;
     put_row(
         pool,
         first,
-        k,
-        e,
-        INFIX,
+        right.rows,
+        right.next,
+        Kind::Infix,
         orders::infix_mark(t),
-        c,
-        head,
-        h,
+        left.next,
+        left.head,
+        right.head,
         0,
         0,
     )
@@ -610,93 +542,91 @@ fn infix_exp(
 // The arguments of a call and their closing sign, which is due by the mode, behind the first `rows` rows of the part.
 #[cycle(expressions)]
 fn actual(
-    tokens: &[u16],
+    source: &Source,
     pool: &mut [u32],
     first: usize,
     rows: usize,
     c: Cursor,
-    mode: Mode,
     less: usize,
 ) -> Read
-    requires { (Ready tokens.now pool.old first c) × (width * rows ≤ length pool.old) }
-    ensures { Behind many (contract.closed_list (due.By mode) (by mode) tokens.now (spec.expression (by mode) tokens.now less) false SRparen WrongSign) tokens.now c first rows result pool.old pool.new }
+    requires { (Ready source.now.tokens.now pool.old first c) × (width * rows ≤ length pool.old) }
+    ensures { Behind many (contract.closed_list (due.By source.now.mode) (by source.now.mode) source.now.tokens.now (expr source.now less) false SRparen WrongSign) source.now.tokens.now c first rows result pool.old pool.new }
 {
     let i = rows::end(rows as u32);
-    let r = enclosed(
-        tokens,
+    let arguments = enclosed(
+        source,
         &mut pool[i..],
         first + rows,
         c,
         false,
         Symbol::SRparen,
-        Due::By(mode),
-        WRONG_SIGN,
-        mode,
+        Due::By(source.mode),
+        Reason::WrongSign,
         less,
-    );
-    let Read::Tree(k, h, d) = r else {
-        return r;
-    };
-    Read::Tree(rows + k, h, d)
+    )?;
+    Ok(Piece {
+        rows: rows + arguments.rows,
+        ..arguments
+    })
 }
 
 // parse_call_expression: with arguments any token closes it, unless the mode asks for the right one.
 #[cycle(expressions)]
-fn call(
-    tokens: &[u16],
-    pool: &mut [u32],
-    first: usize,
-    rows: usize,
-    head: u32,
-    c: Cursor,
-    mode: Mode,
-    less: usize,
-) -> Read
-    requires { (Ready tokens.now pool.old first c) × (width * rows ≤ length pool.old) }
-    ensures { Follows (spec.call (by mode) tokens.now (spec.expression (by mode) tokens.now less)) tokens.now c first rows head result pool.old pool.new }
+fn call(source: &Source, pool: &mut [u32], first: usize, left: Piece, less: usize) -> Read
+    requires { (Ready source.now.tokens.now pool.old first left.next) × (width * left.rows ≤ length pool.old) }
+    ensures { Follows (spec.call (by source.now.mode) source.now.tokens.now (expr source.now less)) source.now.tokens.now left.next first left.rows left.head result pool.old pool.new }
 {
-    if words::next_symbol_is(tokens, c, Symbol::SRparen) {
-        let d = words::iterate(tokens, c);
-        return put_row(pool, first, rows, d, CALL, 0, c, head, 0, 0, 0);
+    if words::next_symbol_is(source.tokens, left.next, Symbol::SRparen) {
+        let d = words::iterate(source.tokens, left.next);
+        return put_row(
+            pool,
+            first,
+            left.rows,
+            d,
+            Kind::Call,
+            0,
+            left.next,
+            left.head,
+            0,
+            0,
+            0,
+        );
     }
-    let r = actual(tokens, pool, first, rows, c, mode, less);
-    let Read::Tree(k, h, e) = r else {
-        return r;
-    };
-    put_row(pool, first, k, e, CALL, 0, c, head, h, 0, 0)
+    let arguments = actual(source, pool, first, left.rows, left.next, less)?;
+    put_row(
+        pool,
+        first,
+        arguments.rows,
+        arguments.next,
+        Kind::Call,
+        0,
+        left.next,
+        left.head,
+        arguments.head,
+        0,
+        0,
+    )
 }
 
 // parse_index_expression
 #[cycle(expressions)]
-fn index(
-    tokens: &[u16],
-    pool: &mut [u32],
-    first: usize,
-    rows: usize,
-    head: u32,
-    c: Cursor,
-    mode: Mode,
-    less: usize,
-) -> Read
-    requires { (Ready tokens.now pool.old first c) × (width * rows ≤ length pool.old) }
-    ensures { Follows (spec.index (by mode) tokens.now (spec.expression (by mode) tokens.now less)) tokens.now c first rows head result pool.old pool.new }
+fn index(source: &Source, pool: &mut [u32], first: usize, left: Piece, less: usize) -> Read
+    requires { (Ready source.now.tokens.now pool.old first left.next) × (width * left.rows ≤ length pool.old) }
+    ensures { Follows (spec.index (by source.now.mode) source.now.tokens.now (expr source.now less)) source.now.tokens.now left.next first left.rows left.head result pool.old pool.new }
 {
-    let e = words::iterate(tokens, c);
-    let r = behind(tokens, pool, first, rows, e, 0, false, mode, less);
-    let Read::Tree(k, h, d) = r else {
-        return r;
-    };
+    let e = words::iterate(source.tokens, left.next);
+    let key = behind(source, pool, first, left.rows, e, 0, false, less)?;
     closed(
-        tokens,
+        source.tokens,
         pool,
         first,
-        k,
-        d,
+        key.rows,
+        key.next,
         Symbol::SRBox,
-        INVALID_SYNTAX,
-        INDEX,
-        c,
-        head,
-        h,
+        Reason::InvalidSyntax,
+        Kind::Index,
+        left.next,
+        left.head,
+        key.head,
     )
 }

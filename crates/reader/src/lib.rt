@@ -3,9 +3,10 @@
 
 mod dots;
 mod expressions;
-mod names;
+mod kind;
 mod part;
 mod simple;
+mod source;
 mod statements;
 
 ghost use Rattle.std.specs.Prelude.{length};
@@ -16,18 +17,19 @@ ghost use Rattle.reader.specs.Meets.{Ready, one, many};
 ghost use Rattle.reader.specs.Promises.{Fresh};
 ghost use Rattle.reader.specs.Entries as entry;
 
-use answer::{Answer, Read, Start};
+use answer::{Answer, Read};
 use expressions::expression;
+use kind::Kind;
 use modes::Mode;
-use names::*;
-use part::put_row;
+use part::{nothing, put_row};
+use source::Source;
 use statements::{statement, statements};
 use tokens::Token;
 use words::Cursor;
 
-// The three entries.
-#[derive(Drop)]
-#[derive(Clone, Copy)]
+// The three entries. They are no closures: the contract of `enter` and its theorem name an entry, and a closure would have to bring what `read`
+// promises of each.
+#[derive(Clone, Copy, Debug, PartialEq, Eq)]
 pub enum Entry {
     Expression,
     Statement,
@@ -35,28 +37,37 @@ pub enum Entry {
 }
 
 // The statements of a script, in a block at place 0.
-fn script(tokens: &[u16], pool: &mut [u32], first: usize, c: Cursor, mode: Mode) -> Read
-    requires { Ready tokens.now pool.old first c }
-    ensures { Fresh one (entry.script (by mode) tokens.now) tokens.now c first result pool.old pool.new }
+fn script(source: &Source, pool: &mut [u32], first: usize, c: Cursor) -> Read
+    requires { Ready source.now.tokens.now pool.old first c }
+    ensures { Fresh one (entry.script (by source.now.mode) source.now.tokens.now) source.now.tokens.now c first result pool.old pool.new }
 {
     let less = modes::nesting();
-    let r = statements(tokens, pool, first, 0, 0, c, Token::EOF, mode, less);
-    let Read::Tree(k, h, d) = r else {
-        return r;
-    };
-    put_row(pool, first, k, d, BLOCK, 0, 0, h, 0, 0, 0)
+    let list = statements(source, pool, first, nothing(c), Token::EOF, less)?;
+    put_row(
+        pool,
+        first,
+        list.rows,
+        list.next,
+        Kind::Block,
+        0,
+        0,
+        list.head,
+        0,
+        0,
+        0,
+    )
 }
 
 // What an entry reads behind its checks.
-fn read(tokens: &[u16], pool: &mut [u32], first: usize, c: Cursor, e: Entry, mode: Mode) -> Read
-    requires { Ready tokens.now pool.old first c }
-    ensures { Fresh many (entry.reads e (by mode) tokens.now) tokens.now c first result pool.old pool.new }
+fn read(source: &Source, pool: &mut [u32], first: usize, c: Cursor, e: Entry) -> Read
+    requires { Ready source.now.tokens.now pool.old first c }
+    ensures { Fresh many (entry.reads e (by source.now.mode) source.now.tokens.now) source.now.tokens.now c first result pool.old pool.new }
 {
     let less = modes::nesting();
     match e {
-        Entry::Expression => expression(tokens, pool, first, c, 0, mode, less),
-        Entry::Statement => statement(tokens, pool, first, c, mode, less),
-        Entry::Script => script(tokens, pool, first, c, mode),
+        Entry::Expression => expression(source, pool, first, c, 0, less),
+        Entry::Statement => statement(source, pool, first, c, less),
+        Entry::Script => script(source, pool, first, c),
     }
 }
 
@@ -65,13 +76,9 @@ pub fn enter(tokens: &[u16], pool: &mut [u32], start: usize, e: Entry, mode: Mod
     ensures { Entered (entry.enters e (by mode) tokens.now start (spec.rows (length pool.old))) result (length pool.old) pool.new }
 {
     rows::clear(pool);
-    let s = answer::check(tokens, start);
-    match s {
-        Start::At(c) => {
-            let n = rows::end(rows::count(pool.len()));
-            let r = read(tokens, &mut pool[0..n], 0, c, e, mode);
-            answer::finish(pool, r)
-        }
-        Start::Refused(n, p) => Answer::Refused(n, p),
-    }
+    let c = answer::check(tokens, start)?;
+    let n = rows::end(rows::count(pool.len()));
+    let source = Source { tokens, mode };
+    let r = read(&source, &mut pool[0..n], 0, c, e);
+    answer::finish(pool, r)
 }

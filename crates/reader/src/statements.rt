@@ -1,48 +1,44 @@
 // The readers of statements and blocks: one cycle, each named after the original's function.
-ghost use Rattle.std.specs.Prelude.{◌≡◌, ◌*◌, ◌≤◌, length};
-ghost use Rattle.grammar.specs.Words.{tok};
+ghost use Rattle.std.specs.Prelude.{◌≡◌, ◌*◌, ◌≤◌, ◌&&◌, length};
+ghost use Rattle.grammar.specs.Words.{SSemiColon, tok, next_is};
 ghost use Rattle.grammar.specs.Tree.{width};
 ghost use Rattle.grammar.specs.Parsed.{turns};
-ghost use Rattle.grammar.specs.Expressions.{expression};
 ghost use Rattle.grammar.specs.Statements as spec;
+ghost use Rattle.refusals.specs.Reasons.{number};
 ghost use Rattle.tokens.specs.Tokens.{word};
 ghost use Rattle.tokens.specs.declared.Token.TheVariants as token;
 ghost use Rattle.modes.specs.Modes.{by};
 ghost use Rattle.reader.specs.Meets.{Ready, one, many};
+ghost use Rattle.reader.specs.Sources.{expr, stmt};
 ghost use Rattle.reader.specs.Promises.{Fresh, Behind, Extends, Begun, further};
 ghost use Rattle.reader.specs.Promises as contract;
 
 use super::expressions::{around, enclosed, expression};
-use super::names::*;
-use super::part::{first_of, put_row};
+use super::kind::Kind;
+use super::part::{first_of, nothing, put_row};
 use super::simple::{alone, assert_statement, behind_sign, return_statement, var_or_const};
-use answer::Read;
-use modes::{Due, Mode};
+use super::source::Source;
+use answer::{Piece, Read};
+use modes::Due;
+use refusals::{Reason, Refusal};
 use tokens::{Keyword, Symbol, Token};
 use words::Cursor;
 
 // parse_statement, where `allow` more expressions and statements may be open.
 #[cycle(statements)]
-pub fn statement(
-    tokens: &[u16],
-    pool: &mut [u32],
-    first: usize,
-    c: Cursor,
-    mode: Mode,
-    allow: usize,
-) -> Read
-    requires { Ready tokens.now pool.old first c }
-    ensures { Fresh many (spec.statement (by mode) tokens.now allow) tokens.now c first result pool.old pool.new }
+pub fn statement(source: &Source, pool: &mut [u32], first: usize, c: Cursor, allow: usize) -> Read
+    requires { Ready source.now.tokens.now pool.old first c }
+    ensures { Fresh many (stmt source.now allow) source.now.tokens.now c first result pool.old pool.new }
 {
     if allow == 0 {
-        return Read::Refused(TOO_DEEP, c);
+        return Err(Refusal::new(Reason::TooDeep, c));
     }
     let less = allow - 1;
-    let t = words::current(tokens, c);
+    let t = words::current(source.tokens, c);
     match t {
-        Token::Empty => Read::Tree(0, 0, c),
-        Token::Keyword(k) => at_keyword(tokens, pool, first, c, k, mode, less),
-        _ => around(tokens, pool, first, c, EXPRESSION, 0, c, mode, less),
+        Token::Empty => Ok(nothing(c)),
+        Token::Keyword(k) => at_keyword(source, pool, first, c, k, less),
+        _ => around(source, pool, first, c, Kind::Expression, 0, c, less),
     }
 }
 
@@ -51,512 +47,482 @@ pub fn statement(
 fn goes_further(k: Keyword) -> bool
     ensures { result ≡ further (word (token.Keyword k)) }
 {
-    match k {
+    matches!(
+        k,
         Keyword::KVar
-        | Keyword::KConst
-        | Keyword::KIf
-        | Keyword::KAssert
-        | Keyword::KWhile
-        | Keyword::KFunc
-        | Keyword::KFor
-        | Keyword::KThrow
-        | Keyword::KTry
-        | Keyword::KForEach => true,
-        _ => false,
-    }
+            | Keyword::KConst
+            | Keyword::KIf
+            | Keyword::KAssert
+            | Keyword::KWhile
+            | Keyword::KFunc
+            | Keyword::KFor
+            | Keyword::KThrow
+            | Keyword::KTry
+            | Keyword::KForEach
+    )
+}
+
+// Whether a statement that begins with a keyword ends right behind it, and may not.
+fn ends_too_soon(tokens: &[u16], c: Cursor, k: Keyword) -> bool
+    ensures { result ≡ further (word (token.Keyword k)) && next_is tokens.now c SSemiColon }
+{
+    goes_further(k) && words::next_symbol_is(tokens, c, Symbol::SSemiColon)
 }
 
 // The statements that begin with a keyword.
 #[cycle(statements)]
 fn at_keyword(
-    tokens: &[u16],
+    source: &Source,
     pool: &mut [u32],
     first: usize,
     c: Cursor,
     k: Keyword,
-    mode: Mode,
     less: usize,
 ) -> Read
-    requires { (Ready tokens.now pool.old first c) × (tok tokens.now c ≡ word (token.Keyword k)) }
-    ensures { Fresh one (spec.kept (by mode) tokens.now (expression (by mode) tokens.now less) (spec.statement (by mode) tokens.now less)) tokens.now c first result pool.old pool.new }
+    requires { (Ready source.now.tokens.now pool.old first c) × (tok source.now.tokens.now c ≡ word (token.Keyword k)) }
+    ensures { Fresh one (spec.kept (by source.now.mode) source.now.tokens.now (expr source.now less) (stmt source.now less)) source.now.tokens.now c first result pool.old pool.new }
 {
-    let d = words::iterate(tokens, c);
-    if goes_further(k) {
-        if words::next_symbol_is(tokens, c, Symbol::SSemiColon) {
-            return Read::Refused(INVALID_SYNTAX, d);
-        }
+    let d = words::iterate(source.tokens, c);
+    if ends_too_soon(source.tokens, c, k) {
+        return Err(Refusal::new(Reason::InvalidSyntax, d));
     }
     match k {
-        Keyword::KBreak => alone(tokens, pool, first, c, BREAK, BREAK_WITHOUT_SEMICOLON),
-        Keyword::KContinue => alone(tokens, pool, first, c, CONTINUE, CONTINUE_WITHOUT_SEMICOLON),
-        Keyword::KVar => var_or_const(tokens, pool, first, d, VAR, mode, less),
-        Keyword::KConst => var_or_const(tokens, pool, first, d, CONST, mode, less),
-        Keyword::KIf => if_statement(tokens, pool, first, c, mode, less),
-        Keyword::KAssert => assert_statement(tokens, pool, first, c, mode, less),
-        Keyword::KWhile => while_statement(tokens, pool, first, c, mode, less),
-        Keyword::KReturn => return_statement(tokens, pool, first, c, mode, less),
-        Keyword::KFunc => function(tokens, pool, first, d, mode, less),
-        Keyword::KFor => for_loop(tokens, pool, first, c, mode, less),
-        Keyword::KThrow => around(tokens, pool, first, d, THROW, 0, c, mode, less),
-        Keyword::KTry => try_statement(tokens, pool, first, c, mode, less),
-        Keyword::KForEach => for_each(tokens, pool, first, c, mode, less),
-        _ => around(tokens, pool, first, c, EXPRESSION, 0, c, mode, less),
+        Keyword::KBreak => alone(
+            source.tokens,
+            pool,
+            first,
+            c,
+            Kind::Break,
+            Reason::BreakWithoutSemicolon,
+        ),
+        Keyword::KContinue => alone(
+            source.tokens,
+            pool,
+            first,
+            c,
+            Kind::Continue,
+            Reason::ContinueWithoutSemicolon,
+        ),
+        Keyword::KVar => var_or_const(source, pool, first, d, Kind::Var, less),
+        Keyword::KConst => var_or_const(source, pool, first, d, Kind::Const, less),
+        Keyword::KIf => if_statement(source, pool, first, c, less),
+        Keyword::KAssert => assert_statement(source, pool, first, c, less),
+        Keyword::KWhile => while_statement(source, pool, first, c, less),
+        Keyword::KReturn => return_statement(source, pool, first, c, less),
+        Keyword::KFunc => function(source, pool, first, d, less),
+        Keyword::KFor => for_loop(source, pool, first, c, less),
+        Keyword::KThrow => around(source, pool, first, d, Kind::Throw, 0, c, less),
+        Keyword::KTry => try_statement(source, pool, first, c, less),
+        Keyword::KForEach => for_each(source, pool, first, c, less),
+        _ => around(source, pool, first, c, Kind::Expression, 0, c, less),
     }
 }
 
-// Statements up to the token `close`, behind those that stand in the first `rows` rows: the loop of parse_block_statement, and of a whole script.
+// Statements up to the token `close`, behind those that were read: the loop of parse_block_statement, and of a whole script.
 #[cycle(statements)]
 pub fn statements(
-    tokens: &[u16],
+    source: &Source,
     pool: &mut [u32],
     first: usize,
-    rows: usize,
-    head: u32,
-    c: Cursor,
+    front: Piece,
     close: Token,
-    mode: Mode,
     allow: usize,
 ) -> Read
-    requires { (Ready tokens.now pool.old first c) × (width * rows ≤ length pool.old) }
-    ensures { Extends (spec.statements (by mode) tokens.now (expression (by mode) tokens.now allow) (spec.statement (by mode) tokens.now allow) (word close) turns) tokens.now c first rows head result pool.old pool.new }
+    requires { (Ready source.now.tokens.now pool.old first front.next) × (width * front.rows ≤ length pool.old) }
+    ensures { Extends (spec.statements (by source.now.mode) source.now.tokens.now (expr source.now allow) (stmt source.now allow) (word close) turns) source.now.tokens.now front.next first front.rows front.head result pool.old pool.new }
 {
-    let mut k = rows;
-    let mut h = head;
-    let mut d = c;
-    while !words::current_is(tokens, d, close) {
-        if words::current_symbol_is(tokens, d, Symbol::SSemiColon) {
-            d = words::iterate(tokens, d);
+    let mut all = front;
+    // The cursor moves by what was read, so no iterator goes over the tokens.
+    while !words::current_is(source.tokens, all.next, close) {
+        if words::current_symbol_is(source.tokens, all.next, Symbol::SSemiColon) {
+            all.next = words::iterate(source.tokens, all.next);
         } else {
-            let r = one_behind(tokens, pool, first, k, d, mode, allow);
-            let Read::Tree(m, g, e) = r else {
-                return r;
+            let one = one_behind(source, pool, first, all.rows, all.next, allow)?;
+            rows::link(pool, all.rows, one.head);
+            all = Piece {
+                rows: one.rows,
+                head: first_of(all.rows, all.head, one.head),
+                next: words::iterate(source.tokens, one.next),
             };
-            rows::link(pool, k, g);
-            h = first_of(k, h, g);
-            k = m;
-            d = words::iterate(tokens, e);
         }
     }
-    Read::Tree(k, h, d)
+    Ok(all)
 }
 
 // A statement behind the first `rows` rows of the part.
 #[cycle(statements)]
 fn one_behind(
-    tokens: &[u16],
+    source: &Source,
     pool: &mut [u32],
     first: usize,
     rows: usize,
     c: Cursor,
-    mode: Mode,
     allow: usize,
 ) -> Read
-    requires { (Ready tokens.now pool.old first c) × (width * rows ≤ length pool.old) }
-    ensures { (Begun tokens.now c result) × (Behind many (spec.statement (by mode) tokens.now allow) tokens.now c first rows result pool.old pool.new) }
+    requires { (Ready source.now.tokens.now pool.old first c) × (width * rows ≤ length pool.old) }
+    ensures { (Begun source.now.tokens.now c result) × (Behind many (stmt source.now allow) source.now.tokens.now c first rows result pool.old pool.new) }
 {
     let i = rows::end(rows as u32);
-    let r = statement(tokens, &mut pool[i..], first + rows, c, mode, allow);
-    let Read::Tree(k, h, d) = r else {
-        return r;
-    };
-    Read::Tree(rows + k, h, d)
+    let one = statement(source, &mut pool[i..], first + rows, c, allow)?;
+    Ok(Piece {
+        rows: rows + one.rows,
+        ..one
+    })
 }
 
 // parse_block_statement, whose opener comes next and may be any token.
 #[cycle(statements)]
-fn block(tokens: &[u16], pool: &mut [u32], first: usize, c: Cursor, mode: Mode, less: usize) -> Read
-    requires { Ready tokens.now pool.old first c }
-    ensures { Fresh one (spec.block (by mode) tokens.now (expression (by mode) tokens.now less) (spec.statement (by mode) tokens.now less)) tokens.now c first result pool.old pool.new }
+fn block(source: &Source, pool: &mut [u32], first: usize, c: Cursor, less: usize) -> Read
+    requires { Ready source.now.tokens.now pool.old first c }
+    ensures { Fresh one (spec.block (by source.now.mode) source.now.tokens.now (expr source.now less) (stmt source.now less)) source.now.tokens.now c first result pool.old pool.new }
 {
-    let d = words::iterate(tokens, c);
-    let e = words::iterate(tokens, d);
-    if words::next_symbol_is(tokens, d, Symbol::SRBrace) {
-        return put_row(pool, first, 0, e, BLOCK, 0, d, 0, 0, 0, 0);
+    let d = words::iterate(source.tokens, c);
+    let e = words::iterate(source.tokens, d);
+    if words::next_symbol_is(source.tokens, d, Symbol::SRBrace) {
+        return put_row(pool, first, 0, e, Kind::Block, 0, d, 0, 0, 0, 0);
     }
-    let r = statement(tokens, pool, first, e, mode, less);
-    let Read::Tree(k, h, f) = r else {
-        return r;
-    };
-    let g = words::iterate(tokens, f);
+    let one = statement(source, pool, first, e, less)?;
+    let g = words::iterate(source.tokens, one.next);
     let brace = Token::Operator(Symbol::SRBrace);
-    let q = statements(tokens, pool, first, k, h, g, brace, mode, less);
-    let Read::Tree(m, i, j) = q else {
-        return q;
-    };
-    put_row(pool, first, m, j, BLOCK, 0, d, i, 0, 0, 0)
+    let all = statements(source, pool, first, Piece { next: g, ..one }, brace, less)?;
+    put_row(
+        pool,
+        first,
+        all.rows,
+        all.next,
+        Kind::Block,
+        0,
+        d,
+        all.head,
+        0,
+        0,
+        0,
+    )
 }
 
 // A block behind the first `rows` rows of the part.
 #[cycle(statements)]
 fn block_behind(
-    tokens: &[u16],
+    source: &Source,
     pool: &mut [u32],
     first: usize,
     rows: usize,
     c: Cursor,
-    mode: Mode,
     less: usize,
 ) -> Read
-    requires { (Ready tokens.now pool.old first c) × (width * rows ≤ length pool.old) }
-    ensures { Behind one (spec.block (by mode) tokens.now (expression (by mode) tokens.now less) (spec.statement (by mode) tokens.now less)) tokens.now c first rows result pool.old pool.new }
+    requires { (Ready source.now.tokens.now pool.old first c) × (width * rows ≤ length pool.old) }
+    ensures { Behind one (spec.block (by source.now.mode) source.now.tokens.now (expr source.now less) (stmt source.now less)) source.now.tokens.now c first rows result pool.old pool.new }
 {
     let i = rows::end(rows as u32);
-    let r = block(tokens, &mut pool[i..], first + rows, c, mode, less);
-    let Read::Tree(k, h, d) = r else {
-        return r;
-    };
-    Read::Tree(rows + k, h, d)
+    let one = block(source, &mut pool[i..], first + rows, c, less)?;
+    Ok(Piece {
+        rows: rows + one.rows,
+        ..one
+    })
 }
 
-// A sign that comes next and an opening brace behind it, where it is due, or else the refusals `missing` and `bare`; and the block, behind the
-// first `rows` rows of the part.
+// A sign that comes next and an opening brace behind it, where it is due, or else the refusals for `missing` and `bare`; and the block, behind what
+// was read last.
 #[cycle(statements)]
 fn body(
-    tokens: &[u16],
+    source: &Source,
     pool: &mut [u32],
     first: usize,
-    rows: usize,
-    c: Cursor,
+    last: Piece,
     sign: Symbol,
-    missing: u32,
+    missing: Reason,
     due: Due,
-    bare: u32,
-    mode: Mode,
+    bare: Reason,
     less: usize,
 ) -> Read
-    requires { (Ready tokens.now pool.old first c) × (width * rows ≤ length pool.old) }
-    ensures { Behind one (contract.body due tokens.now (spec.block (by mode) tokens.now (expression (by mode) tokens.now less) (spec.statement (by mode) tokens.now less)) (word (token.Operator sign)) missing bare) tokens.now c first rows result pool.old pool.new }
+    requires { (Ready source.now.tokens.now pool.old first last.next) × (width * last.rows ≤ length pool.old) }
+    ensures { Behind one (contract.body due source.now.tokens.now (spec.block (by source.now.mode) source.now.tokens.now (expr source.now less) (stmt source.now less)) (word (token.Operator sign)) (number missing) (number bare)) source.now.tokens.now last.next first last.rows result pool.old pool.new }
 {
-    if !words::next_symbol_is(tokens, c, sign) {
-        return Read::Refused(missing, c);
+    if !words::next_symbol_is(source.tokens, last.next, sign) {
+        return Err(Refusal::new(missing, last.next));
     }
-    let d = words::iterate(tokens, c);
-    braced(tokens, pool, first, rows, d, due, bare, mode, less)
+    let d = words::iterate(source.tokens, last.next);
+    braced(
+        source,
+        pool,
+        first,
+        Piece { next: d, ..last },
+        due,
+        bare,
+        less,
+    )
 }
 
 // parse_function_statement behind `func`, at the name.
 #[cycle(statements)]
-fn function(
-    tokens: &[u16],
-    pool: &mut [u32],
-    first: usize,
-    c: Cursor,
-    mode: Mode,
-    less: usize,
-) -> Read
-    requires { Ready tokens.now pool.old first c }
-    ensures { Fresh one (spec.function (by mode) tokens.now (expression (by mode) tokens.now less) (spec.statement (by mode) tokens.now less)) tokens.now c first result pool.old pool.new }
+fn function(source: &Source, pool: &mut [u32], first: usize, c: Cursor, less: usize) -> Read
+    requires { Ready source.now.tokens.now pool.old first c }
+    ensures { Fresh one (spec.function (by source.now.mode) source.now.tokens.now (expr source.now less) (stmt source.now less)) source.now.tokens.now c first result pool.old pool.new }
 {
-    if !words::is_identifier(tokens, c) {
-        return Read::Refused(FUNC_WITHOUT_NAME, c);
+    if !words::is_identifier(source.tokens, c) {
+        return Err(Refusal::new(Reason::FuncWithoutName, c));
     }
-    if !words::next_symbol_is(tokens, c, Symbol::SLParen) {
-        return Read::Refused(INVALID_SYNTAX, c);
+    if !words::next_symbol_is(source.tokens, c, Symbol::SLParen) {
+        return Err(Refusal::new(Reason::InvalidSyntax, c));
     }
+    let d = words::iterate(source.tokens, c);
+    let close = Symbol::SRparen;
     let due = Due::Always;
-    let r = enclosed(
-        tokens,
+    let bare = Reason::InvalidSyntax;
+    let parameters = enclosed(source, pool, first, d, false, close, due, bare, less)?;
+    let inner = braced(source, pool, first, parameters, due, bare, less)?;
+    put_row(
         pool,
         first,
-        words::iterate(tokens, c),
-        false,
-        Symbol::SRparen,
-        due,
-        INVALID_SYNTAX,
-        mode,
-        less,
-    );
-    let Read::Tree(k, h, d) = r else {
-        return r;
-    };
-    let q = braced(tokens, pool, first, k, d, due, INVALID_SYNTAX, mode, less);
-    let Read::Tree(m, g, f) = q else {
-        return q;
-    };
-    put_row(pool, first, m, f, FUNCTION, 0, c, h, g, 0, 0)
+        inner.rows,
+        inner.next,
+        Kind::Function,
+        0,
+        c,
+        parameters.head,
+        inner.head,
+        0,
+        0,
+    )
 }
 
 // parse_if_statement
 #[cycle(statements)]
-fn if_statement(
-    tokens: &[u16],
-    pool: &mut [u32],
-    first: usize,
-    c: Cursor,
-    mode: Mode,
-    less: usize,
-) -> Read
-    requires { Ready tokens.now pool.old first c }
-    ensures { Fresh one (spec.if (by mode) tokens.now (expression (by mode) tokens.now less) (spec.statement (by mode) tokens.now less)) tokens.now c first result pool.old pool.new }
+fn if_statement(source: &Source, pool: &mut [u32], first: usize, c: Cursor, less: usize) -> Read
+    requires { Ready source.now.tokens.now pool.old first c }
+    ensures { Fresh one (spec.if (by source.now.mode) source.now.tokens.now (expr source.now less) (stmt source.now less)) source.now.tokens.now c first result pool.old pool.new }
 {
-    let d = words::iterate(tokens, c);
-    if !words::next_symbol_is(tokens, c, Symbol::SLParen) {
-        return Read::Refused(INVALID_SYNTAX, d);
+    let d = words::iterate(source.tokens, c);
+    if !words::next_symbol_is(source.tokens, c, Symbol::SLParen) {
+        return Err(Refusal::new(Reason::InvalidSyntax, d));
     }
-    let e = words::iterate(tokens, d);
-    let r = expression(tokens, pool, first, e, 0, mode, less);
-    let Read::Tree(k0, h0, e0) = r else {
-        return r;
-    };
-    let r1 = body(
-        tokens,
+    let e = words::iterate(source.tokens, d);
+    let condition = expression(source, pool, first, e, 0, less)?;
+    let due = Due::Always;
+    let inner = body(
+        source,
         pool,
         first,
-        k0,
-        e0,
+        condition,
         Symbol::SRparen,
-        INVALID_TOKEN,
-        Due::Always,
-        IF_WITHOUT_BODY,
-        mode,
+        Reason::InvalidToken,
+        due,
+        Reason::IfWithoutBody,
         less,
-    );
-    let Read::Tree(k1, h1, e1) = r1 else {
-        return r1;
-    };
-    let r2 = clause(
-        tokens,
+    )?;
+    let bare = Reason::InvalidSyntax;
+    let other = clause(source, pool, first, inner, Keyword::KElse, due, bare, less)?;
+    put_row(
         pool,
         first,
-        k1,
-        e1,
-        Keyword::KElse,
-        Due::Always,
-        INVALID_SYNTAX,
-        mode,
-        less,
-    );
-    let Read::Tree(k2, h2, e2) = r2 else {
-        return r2;
-    };
-    put_row(pool, first, k2, e2, IF, 0, c, h0, h1, h2, 0)
+        other.rows,
+        other.next,
+        Kind::If,
+        0,
+        c,
+        condition.head,
+        inner.head,
+        other.head,
+        0,
+    )
 }
 
 // parse_while_statement
 #[cycle(statements)]
-fn while_statement(
-    tokens: &[u16],
-    pool: &mut [u32],
-    first: usize,
-    c: Cursor,
-    mode: Mode,
-    less: usize,
-) -> Read
-    requires { Ready tokens.now pool.old first c }
-    ensures { Fresh one (spec.while (by mode) tokens.now (expression (by mode) tokens.now less) (spec.statement (by mode) tokens.now less)) tokens.now c first result pool.old pool.new }
+fn while_statement(source: &Source, pool: &mut [u32], first: usize, c: Cursor, less: usize) -> Read
+    requires { Ready source.now.tokens.now pool.old first c }
+    ensures { Fresh one (spec.while (by source.now.mode) source.now.tokens.now (expr source.now less) (stmt source.now less)) source.now.tokens.now c first result pool.old pool.new }
 {
-    if !words::next_symbol_is(tokens, c, Symbol::SLParen) {
-        return Read::Refused(INVALID_SYNTAX, c);
+    if !words::next_symbol_is(source.tokens, c, Symbol::SLParen) {
+        return Err(Refusal::new(Reason::InvalidSyntax, c));
     }
-    let d = words::iterate(tokens, words::iterate(tokens, c));
-    let r = expression(tokens, pool, first, d, 0, mode, less);
-    let Read::Tree(k, h, e) = r else {
-        return r;
-    };
-    let q = body(
-        tokens,
+    let d = words::iterate(source.tokens, words::iterate(source.tokens, c));
+    let condition = expression(source, pool, first, d, 0, less)?;
+    let inner = body(
+        source,
         pool,
         first,
-        k,
-        e,
+        condition,
         Symbol::SRparen,
-        INVALID_SYNTAX,
-        Due::By(mode),
-        WRONG_SIGN,
-        mode,
+        Reason::InvalidSyntax,
+        Due::By(source.mode),
+        Reason::WrongSign,
         less,
-    );
-    let Read::Tree(m, g, f) = q else {
-        return q;
-    };
-    put_row(pool, first, m, f, WHILE, 0, c, h, g, 0, 0)
+    )?;
+    put_row(
+        pool,
+        first,
+        inner.rows,
+        inner.next,
+        Kind::While,
+        0,
+        c,
+        condition.head,
+        inner.head,
+        0,
+        0,
+    )
 }
 
 // parse_for_each_statement
 #[cycle(statements)]
-fn for_each(
-    tokens: &[u16],
-    pool: &mut [u32],
-    first: usize,
-    c: Cursor,
-    mode: Mode,
-    less: usize,
-) -> Read
-    requires { Ready tokens.now pool.old first c }
-    ensures { Fresh one (spec.foreach (by mode) tokens.now (expression (by mode) tokens.now less) (spec.statement (by mode) tokens.now less)) tokens.now c first result pool.old pool.new }
+fn for_each(source: &Source, pool: &mut [u32], first: usize, c: Cursor, less: usize) -> Read
+    requires { Ready source.now.tokens.now pool.old first c }
+    ensures { Fresh one (spec.foreach (by source.now.mode) source.now.tokens.now (expr source.now less) (stmt source.now less)) source.now.tokens.now c first result pool.old pool.new }
 {
-    let d = words::iterate(tokens, c);
-    let r0 = expression(tokens, pool, first, d, 0, mode, less);
-    let Read::Tree(k0, h0, e0) = r0 else {
-        return r0;
-    };
+    let d = words::iterate(source.tokens, c);
+    let over = expression(source, pool, first, d, 0, less)?;
     let sep = Token::Operator(Symbol::SComma);
-    let r1 = behind_sign(tokens, pool, first, k0, e0, sep, INVALID_SYNTAX, mode, less);
-    let Read::Tree(k1, h1, e1) = r1 else {
-        return r1;
-    };
-    let r2 = behind_sign(tokens, pool, first, k1, e1, sep, INVALID_SYNTAX, mode, less);
-    let Read::Tree(k2, h2, e2) = r2 else {
-        return r2;
-    };
-    let r3 = body(
-        tokens,
+    let missing = Reason::InvalidSyntax;
+    let position = behind_sign(source, pool, first, over, sep, missing, less)?;
+    let element = behind_sign(source, pool, first, position, sep, missing, less)?;
+    let inner = body(
+        source,
         pool,
         first,
-        k2,
-        e2,
+        element,
         Symbol::SImpl,
-        INVALID_SYNTAX,
-        Due::By(mode),
-        WRONG_SIGN,
-        mode,
+        missing,
+        Due::By(source.mode),
+        Reason::WrongSign,
         less,
-    );
-    let Read::Tree(k3, h3, e3) = r3 else {
-        return r3;
-    };
-    put_row(pool, first, k3, e3, FOREACH, 0, c, h0, h1, h2, h3)
+    )?;
+    put_row(
+        pool,
+        first,
+        inner.rows,
+        inner.next,
+        Kind::ForEach,
+        0,
+        c,
+        over.head,
+        position.head,
+        element.head,
+        inner.head,
+    )
 }
 
 // parse_for_loop_statement
 #[cycle(statements)]
-fn for_loop(
-    tokens: &[u16],
-    pool: &mut [u32],
-    first: usize,
-    c: Cursor,
-    mode: Mode,
-    less: usize,
-) -> Read
-    requires { Ready tokens.now pool.old first c }
-    ensures { Fresh one (spec.for (by mode) tokens.now (expression (by mode) tokens.now less) (spec.statement (by mode) tokens.now less)) tokens.now c first result pool.old pool.new }
+fn for_loop(source: &Source, pool: &mut [u32], first: usize, c: Cursor, less: usize) -> Read
+    requires { Ready source.now.tokens.now pool.old first c }
+    ensures { Fresh one (spec.for (by source.now.mode) source.now.tokens.now (expr source.now less) (stmt source.now less)) source.now.tokens.now c first result pool.old pool.new }
 {
-    let d = words::iterate(tokens, c);
-    let r0 = expression(tokens, pool, first, d, 0, mode, less);
-    let Read::Tree(k0, h0, e0) = r0 else {
-        return r0;
-    };
+    let d = words::iterate(source.tokens, c);
+    let target = expression(source, pool, first, d, 0, less)?;
     let sep = Token::Keyword(Keyword::KIn);
-    let r1 = behind_sign(tokens, pool, first, k0, e0, sep, INVALID_SYNTAX, mode, less);
-    let Read::Tree(k1, h1, e1) = r1 else {
-        return r1;
-    };
-    let r2 = body(
-        tokens,
+    let missing = Reason::InvalidSyntax;
+    let over = behind_sign(source, pool, first, target, sep, missing, less)?;
+    let inner = body(
+        source,
         pool,
         first,
-        k1,
-        e1,
+        over,
         Symbol::SImpl,
-        INVALID_SYNTAX,
+        missing,
         Due::Always,
-        INVALID_SYNTAX,
-        mode,
+        missing,
         less,
-    );
-    let Read::Tree(k2, h2, e2) = r2 else {
-        return r2;
-    };
-    put_row(pool, first, k2, e2, FOR, 0, c, h0, h1, h2, 0)
+    )?;
+    put_row(
+        pool,
+        first,
+        inner.rows,
+        inner.next,
+        Kind::For,
+        0,
+        c,
+        target.head,
+        over.head,
+        inner.head,
+        0,
+    )
 }
 
-// An opening brace that comes next, where it is due, or else the refusal `number`; and its block, behind the first `rows` rows of the part.
+// An opening brace that comes next, where it is due, or else the refusal for `reason`; and its block, behind what was read last.
 #[cycle(statements)]
 fn braced(
-    tokens: &[u16],
+    source: &Source,
     pool: &mut [u32],
     first: usize,
-    rows: usize,
-    c: Cursor,
+    last: Piece,
     due: Due,
-    number: u32,
-    mode: Mode,
+    reason: Reason,
     less: usize,
 ) -> Read
-    requires { (Ready tokens.now pool.old first c) × (width * rows ≤ length pool.old) }
-    ensures { Behind one (contract.braced due tokens.now (spec.block (by mode) tokens.now (expression (by mode) tokens.now less) (spec.statement (by mode) tokens.now less)) number) tokens.now c first rows result pool.old pool.new }
+    requires { (Ready source.now.tokens.now pool.old first last.next) × (width * last.rows ≤ length pool.old) }
+    ensures { Behind one (contract.braced due source.now.tokens.now (spec.block (by source.now.mode) source.now.tokens.now (expr source.now less) (stmt source.now less)) (number reason)) source.now.tokens.now last.next first last.rows result pool.old pool.new }
 {
-    if !modes::comes(tokens, c, Symbol::SLBrace, due) {
-        return Read::Refused(number, c);
+    if !modes::comes(source.tokens, last.next, Symbol::SLBrace, due) {
+        return Err(Refusal::new(reason, last.next));
     }
-    block_behind(tokens, pool, first, rows, c, mode, less)
+    block_behind(source, pool, first, last.rows, last.next, less)
 }
 
 // The block of a keyword that comes next, braced as above, or none: the ends of parse_if_statement and of parse_try_statement.
 #[cycle(statements)]
 fn clause(
-    tokens: &[u16],
+    source: &Source,
     pool: &mut [u32],
     first: usize,
-    rows: usize,
-    c: Cursor,
+    last: Piece,
     k: Keyword,
     due: Due,
-    number: u32,
-    mode: Mode,
+    reason: Reason,
     less: usize,
 ) -> Read
-    requires { (Ready tokens.now pool.old first c) × (width * rows ≤ length pool.old) }
-    ensures { Behind many (contract.clause due tokens.now (spec.block (by mode) tokens.now (expression (by mode) tokens.now less) (spec.statement (by mode) tokens.now less)) (word (token.Keyword k)) number) tokens.now c first rows result pool.old pool.new }
+    requires { (Ready source.now.tokens.now pool.old first last.next) × (width * last.rows ≤ length pool.old) }
+    ensures { Behind many (contract.clause due source.now.tokens.now (spec.block (by source.now.mode) source.now.tokens.now (expr source.now less) (stmt source.now less)) (word (token.Keyword k)) (number reason)) source.now.tokens.now last.next first last.rows result pool.old pool.new }
 {
-    if !words::next_keyword_is(tokens, c, k) {
-        return Read::Tree(rows, 0, c);
+    if !words::next_keyword_is(source.tokens, last.next, k) {
+        return Ok(Piece { head: 0, ..last });
     }
-    let d = words::iterate(tokens, c);
-    braced(tokens, pool, first, rows, d, due, number, mode, less)
+    let d = words::iterate(source.tokens, last.next);
+    braced(
+        source,
+        pool,
+        first,
+        Piece { next: d, ..last },
+        due,
+        reason,
+        less,
+    )
 }
 
 // parse_try_statement
 #[cycle(statements)]
-fn try_statement(
-    tokens: &[u16],
-    pool: &mut [u32],
-    first: usize,
-    c: Cursor,
-    mode: Mode,
-    less: usize,
-) -> Read
-    requires { Ready tokens.now pool.old first c }
-    ensures { Fresh one (spec.try (by mode) tokens.now (expression (by mode) tokens.now less) (spec.statement (by mode) tokens.now less)) tokens.now c first result pool.old pool.new }
+fn try_statement(source: &Source, pool: &mut [u32], first: usize, c: Cursor, less: usize) -> Read
+    requires { Ready source.now.tokens.now pool.old first c }
+    ensures { Fresh one (spec.try (by source.now.mode) source.now.tokens.now (expr source.now less) (stmt source.now less)) source.now.tokens.now c first result pool.old pool.new }
 {
     let due = Due::Always;
-    let r0 = braced(tokens, pool, first, 0, c, due, INVALID_SYNTAX, mode, less);
-    let Read::Tree(k0, h0, e0) = r0 else {
-        return r0;
-    };
-    let caught = Token::Keyword(Keyword::KCatch);
-    let r1 = behind_sign(
-        tokens,
+    let bare = Reason::InvalidSyntax;
+    let tried = braced(source, pool, first, nothing(c), due, bare, less)?;
+    let sign = Token::Keyword(Keyword::KCatch);
+    let missing = Reason::TryWithoutCatch;
+    let error = behind_sign(source, pool, first, tried, sign, missing, less)?;
+    let caught = braced(source, pool, first, error, due, bare, less)?;
+    let last = clause(
+        source,
         pool,
         first,
-        k0,
-        e0,
         caught,
-        TRY_WITHOUT_CATCH,
-        mode,
+        Keyword::KFinally,
+        Due::By(source.mode),
+        Reason::WrongSign,
         less,
-    );
-    let Read::Tree(k1, h1, e1) = r1 else {
-        return r1;
-    };
-    let r2 = braced(tokens, pool, first, k1, e1, due, INVALID_SYNTAX, mode, less);
-    let Read::Tree(k2, h2, e2) = r2 else {
-        return r2;
-    };
-    let r3 = clause(
-        tokens,
+    )?;
+    put_row(
         pool,
         first,
-        k2,
-        e2,
-        Keyword::KFinally,
-        Due::By(mode),
-        WRONG_SIGN,
-        mode,
-        less,
-    );
-    let Read::Tree(k3, h3, e3) = r3 else {
-        return r3;
-    };
-    put_row(pool, first, k3, e3, TRY, 0, c, h0, h1, h2, h3)
+        last.rows,
+        last.next,
+        Kind::Try,
+        0,
+        c,
+        tried.head,
+        error.head,
+        caught.head,
+        last.head,
+    )
 }

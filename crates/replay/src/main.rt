@@ -1,98 +1,99 @@
 // Replays the recorded cases on standard input, and says where an entry answers otherwise than its record.
 #![tactic(auto)]
 
-mod compare;
-mod stream;
+mod case;
 
 use answer::Answer;
+use case::{Case, HEAD, Head, RECORD, Record};
 use modes::mode_of;
+use recorded::{fill, holds, read};
 use rows::{MOST, WIDTH};
 use std::io;
 use std::io::Read;
-use stream::{half, read};
 
-// The most words of an array and of a pool, which has two rows more than are ever used, and the bytes of such a case with its
-// record.
+// The most words of an array and of a pool, which has two rows more than are ever used, and the bytes of the longest part of a
+// case.
 const TOKENS: usize = 65536;
 
 const POOL: usize = WIDTH * (MOST + 2);
 
-const BYTES: usize = stream::ROWS_AT + 4 * POOL;
+const PART: usize = 4 * POOL;
 
-// What comes of a case: whether the answer is the recorded one, as a number, or a third one where it doesn't fit the buffers.
-const DIFFERS: u8 = 0;
-
-const SKIPPED: u8 = 2;
+// What a pool is full of before it is lent.
+const OTHER: u32 = 0xFFFF_FFFF;
 
 // The first of the entries in strict mode.
 const STRICT: u16 = 3;
 
-// The tokens are those of a case.
-fn fill(bytes: &[u8], tokens: &mut [u16]) {
-    let mut i = 0;
-    while i < tokens.len() {
-        tokens[i] = half(bytes, i + stream::TOKENS);
-        i += 1;
-    }
+// What comes of a case: the recorded answer or another one, or it doesn't fit the buffers.
+#[derive(Clone, Copy, Debug, PartialEq, Eq)]
+enum Verdict {
+    Agrees,
+    Differs,
+    Skipped,
 }
 
 // The answer of a case's entry.
-fn given(bytes: &[u8], tokens: &[u16], pool: &mut [u32]) -> Answer {
-    let entry = half(bytes, stream::ENTRY);
-    let start = half(bytes, stream::START) as usize;
-    let mode = mode_of(entry >= STRICT);
-    match entry {
+fn given(head: &Head, tokens: &[u16], pool: &mut [u32]) -> Answer {
+    let start = head.start as usize;
+    let mode = mode_of(head.entry >= STRICT);
+    match head.entry {
         0 | 3 => parser::one_expression(tokens, pool, start, mode),
         1 | 4 => parser::one_statement(tokens, pool, start, mode),
         _ => parser::whole_script(tokens, pool, mode),
     }
 }
 
-// Whether a case's answer and pool are those of its record, in buffers of its size. `has_rows` is asked in any case: it
-// leaves the pool as the next case wants it.
-fn agrees(bytes: &[u8], tokens: &mut [u16], pool: &mut [u32]) -> bool {
-    fill(bytes, tokens);
-    let answer = given(bytes, tokens, pool);
-    compare::has_numbers(bytes, answer) & compare::has_rows(bytes, pool)
-}
-
-// Replays a case, if it fits the buffers.
-fn replay(bytes: &[u8], tokens: &mut [u16], pool: &mut [u32]) -> u8 {
-    let size = stream::word(bytes, stream::SIZE);
-    let count = half(bytes, stream::COUNT) as usize;
-    if (pool.len() < size) | (tokens.len() < count) {
-        return SKIPPED;
+// Replays a case, if it fits the buffers: whether its answer and pool are those of its record, whose rows are in front of the
+// part. The pool is left as the next case wants it.
+fn replay(case: &Case, part: &[u8; PART], tokens: &[u16], pool: &mut [u32; POOL]) -> Verdict {
+    if POOL < case.head.size as usize {
+        return Verdict::Skipped;
     }
-    agrees(bytes, &mut tokens[..count], &mut pool[..size]) as u8
-}
-
-// Says what came of a case, if it did.
-fn say(out: &impl Print, is_so: bool, case: u64, what: &str) -> io::Result<()> {
-    if is_so {
-        println!(out; "case {case} {what}")?;
+    let pool = &mut pool[..case.head.size as usize];
+    let answer = given(&case.head, tokens, pool);
+    let rows = PART.min(case.record.row_bytes());
+    let same = case.record.is(answer) && holds(pool, &part[..rows]);
+    pool.fill(OTHER);
+    if same {
+        Verdict::Agrees
+    } else {
+        Verdict::Differs
     }
-    Ok(())
 }
 
 // Says what came of a case that was replayed or skipped, unless all is well.
-fn say_verdict(out: &impl Print, case: u64, verdict: u8) -> io::Result<()> {
-    say(out, verdict == DIFFERS, case, "differs")?;
-    say(out, verdict == SKIPPED, case, "is skipped: it doesn't fit")
+fn say(out: &impl Print, case: u64, verdict: Verdict) -> io::Result<()> {
+    match verdict {
+        Verdict::Agrees => Ok(()),
+        Verdict::Differs => println!(out; "case {case} differs"),
+        Verdict::Skipped => println!(out; "case {case} is skipped: it doesn't fit"),
+    }
 }
 
-// The last line: the counts.
-fn print_counts(out: &impl Print, replayed: u64, differing: u64, skipped: u64) -> io::Result<()> {
-    println!(out; "{replayed} replayed, {differing} differing, {skipped} skipped")
-}
-
-// Reads the next case with its record; false if the stream ends before. That it ends in the middle of the case is said.
-fn take(source: &mut impl Read, out: &impl Print, bytes: &mut [u8], case: u64) -> io::Result<bool> {
-    let got = read(source, bytes, 0, stream::HEAD_END)?;
-    let n = 2 * half(bytes, stream::COUNT) as usize;
-    let whole = (read(source, bytes, stream::TOKENS_AT, stream::TOKENS_AT + n)? == n)
-        & stream::record_read(source, bytes)?;
-    say(out, (got > 0) & !whole, case, "is cut short")?;
-    Ok(whole)
+// Reads the next case, and its tokens; none if the stream ends before. That it ends in the middle of the case is said.
+fn take(
+    source: &mut impl Read,
+    out: &impl Print,
+    part: &mut [u8; PART],
+    tokens: &mut [u16; TOKENS],
+    number: u64,
+) -> io::Result<Option<Case>> {
+    let got = input::read_full(source, &mut part[..HEAD])?;
+    let head = Head::of(part);
+    let count = head.count as usize;
+    let has_tokens = read(source, part, 2 * count)?;
+    fill(&mut tokens[..count], part);
+    let has_record = read(source, part, RECORD)?;
+    let record = Record::of(part);
+    let has_rows = read(source, part, record.row_bytes())?;
+    if got == HEAD && has_tokens && has_record && has_rows {
+        return Ok(Some(Case { head, record }));
+    }
+    if 0 < got {
+        println!(out; "case {number} is cut short")?;
+    }
+    Ok(None)
 }
 
 // Replays case after case. A proved loop has to end, and nothing says that a stream does, so this one ends at a number of
@@ -100,26 +101,34 @@ fn take(source: &mut impl Read, out: &impl Print, bytes: &mut [u8], case: u64) -
 fn replay_all(
     source: &mut impl Read,
     out: &impl Print,
-    bytes: &mut [u8],
-    tokens: &mut [u16],
-    pool: &mut [u32],
+    part: &mut [u8; PART],
+    tokens: &mut [u16; TOKENS],
+    pool: &mut [u32; POOL],
 ) -> io::Result<()> {
-    let mut differing = 0;
-    let mut skipped = 0;
-    let mut case = 0;
-    while (case < u64::MAX) & take(source, out, bytes, case)? {
-        let verdict = replay(bytes, tokens, pool);
-        say_verdict(out, case, verdict)?;
-        differing += (verdict == DIFFERS) as u64;
-        skipped += (verdict == SKIPPED) as u64;
-        case += 1;
+    let mut replayed = 0u64;
+    let mut differing = 0u64;
+    let mut skipped = 0u64;
+    for number in 0..u64::MAX {
+        let Some(case) = take(source, out, part, tokens, number)? else {
+            break;
+        };
+        let verdict = replay(&case, part, &tokens[..case.head.count as usize], pool);
+        say(out, number, verdict)?;
+        match verdict {
+            Verdict::Agrees => replayed += 1,
+            Verdict::Differs => {
+                replayed += 1;
+                differing += 1;
+            }
+            Verdict::Skipped => skipped += 1,
+        }
     }
-    print_counts(out, case - skipped, differing, skipped)
+    println!(out; "{replayed} replayed, {differing} differing, {skipped} skipped")
 }
 
 fn main(rt: HostRuntime) -> io::Result<()> {
-    let mut bytes: [u8; BYTES] = [0; BYTES];
+    let mut part: [u8; PART] = [0; PART];
     let mut tokens: [u16; TOKENS] = [0; TOKENS];
-    let mut pool: [u32; POOL] = [compare::OTHER; POOL];
-    replay_all(&mut rt.stdin(), &rt, &mut bytes, &mut tokens, &mut pool)
+    let mut pool: [u32; POOL] = [OTHER; POOL];
+    replay_all(&mut rt.stdin(), &rt, &mut part, &mut tokens, &mut pool)
 }

@@ -1,15 +1,10 @@
 // Retells the recorded cases of JSON texts on standard input, and says where the writer answers otherwise than its record.
 #![tactic(auto)]
 
-mod compare;
-mod stream;
-
-ghost use Rattle.std.specs.Prelude.{◌+◌, ◌≤◌, IfOk};
-
+use recorded::{Number, Recorded, Tally, fill, leaves, read};
 use rows::{MOST, WIDTH};
 use std::io;
 use std::io::Read;
-use stream::{read, word};
 
 // The most words of a pool, which has two rows more than are ever used, and the most bytes of a file and of an output.
 const POOL: usize = WIDTH * (MOST + 2);
@@ -18,105 +13,90 @@ const FILE: usize = 61000;
 
 const ROOM: usize = 1048576;
 
-// The bytes of a head and of the longest part of a record.
-const BYTES: usize = stream::HEAD + 4 * POOL;
+// The bytes of a head, and of the longest part behind one.
+const HEAD: usize = 28;
 
-// The pool is that of a case.
-fn fill(bytes: &[u8], pool: &mut [u32]) {
-    let n = stream::fitting(bytes, stream::POOL, pool.len());
-    let mut i = 0;
-    while i < n {
-        pool[i] = word(bytes, stream::PART + i);
-        i += 1;
+const PART: usize = 4 * POOL;
+
+// What the output is full of before it is lent.
+const OTHER: u8 = 0xFF;
+
+// The head of a case: the root; the lengths of the pool, the file and the output; the answer.
+#[derive(Clone, Copy, Debug, PartialEq, Eq)]
+struct Head {
+    root: u32,
+    pool: u32,
+    file: u32,
+    room: u32,
+    answer: Recorded,
+}
+
+impl Head {
+    // The head of the bytes. Its last number is 0.
+    fn of(bytes: &[u8]) -> Head {
+        Head {
+            root: Number::at(bytes, 0),
+            pool: Number::at(bytes, 1),
+            file: Number::at(bytes, 2),
+            room: Number::at(bytes, 3),
+            answer: Recorded {
+                number: Number::at(bytes, 4),
+                value: Number::at(bytes, 5),
+            },
+        }
     }
 }
 
-// Reads the pool and the file of a case; whether both are there and fit the buffers, as the output does.
-fn given(
+// Whether the writer gives the recorded answer and leaves the recorded text. It is lent as much of each buffer as the case says.
+// What was left is compared in any case, which leaves it as the next case wants it.
+fn agrees(
     source: &mut impl Read,
-    bytes: &mut [u8; BYTES],
-    pool: &mut [u32; POOL],
+    head: &Head,
+    part: &mut [u8; PART],
+    pool: &mut [u32],
     file: &mut [u8; FILE],
+    text: &mut [u8],
 ) -> io::Result<bool> {
-    let p = word(bytes, stream::POOL) as usize;
-    let f = word(bytes, stream::FILE) as usize;
-    let whole = read(source, bytes, stream::HEAD, 4 * p)? & read(source, file, 0, f)?;
-    fill(bytes, pool);
-    Ok(whole & (word(bytes, stream::ROOM) as usize <= ROOM))
+    let has_pool = read(source, part, 4 * head.pool as usize)?;
+    fill(pool, part);
+    let has_file = read(source, file, head.file as usize)?;
+    let file = &file[..FILE.min(head.file as usize)];
+    let told = json_writer::write(pool, head.root as usize, file, text);
+    let fits = head.room as usize <= ROOM;
+    let has_text = leaves(source, part, head.answer.count(), text, OTHER)?;
+    Ok(has_pool && has_file && fits && head.answer.is(told) && has_text)
 }
 
-// Reads the text of a record; whether the output was left so. It is compared in any case, which leaves it as the next case
-// wants it.
-fn leaves(
-    source: &mut impl Read,
-    bytes: &mut [u8; BYTES],
-    text: &mut [u8; ROOM],
-) -> io::Result<bool> {
-    let count = stream::text_length(bytes);
-    Ok(read(source, bytes, stream::HEAD, count)? & compare::has_text(bytes, count, text))
-}
-
-// Says that a case differs, unless it doesn't; how many differ.
-fn say(out: &impl Print, same: bool, case: u64) -> io::Result<u64>
-    ensures { IfOk result (λ n. n ≤ 1) }
-{
-    if same {
-        return Ok(0);
-    }
-    println!(out; "{case} differs")?;
-    Ok(1)
-}
-
-// The last line: the counts.
-fn print_counts(out: &impl Print, retold: u64, differing: u64) -> io::Result<()> {
-    println!(out; "{retold} retold, {differing} differing")
-}
-
-// Reads the head of the next case; 1 if it is there, else 0. A proved loop has to end, and nothing says that a stream does, so
-// none is there either behind as many as can be counted, which no run gets to.
-fn take(source: &mut impl Read, bytes: &mut [u8], case: u64) -> io::Result<u64>
-    ensures { IfOk result (λ n. case + n ≤ 18446744073709551615) }
-{
-    if case == u64::MAX {
-        return Ok(0);
-    }
-    Ok(if read(source, bytes, 0, stream::HEAD)? {
-        1
-    } else {
-        0
-    })
-}
-
-// Retells case after case.
+// Retells case after case. A proved loop has to end, and nothing says that a stream does, so this one ends at a number of cases
+// that no run gets to.
 fn retell_all(
     source: &mut impl Read,
     out: &impl Print,
-    bytes: &mut [u8; BYTES],
+    part: &mut [u8; PART],
     pool: &mut [u32; POOL],
     file: &mut [u8; FILE],
     text: &mut [u8; ROOM],
 ) -> io::Result<()> {
-    let mut differing = 0;
-    let mut case = 0;
-    while 0 < take(source, bytes, case)? {
-        let same = given(source, bytes, pool, file)?
-            & compare::writes(bytes, pool, file, text)
-            & leaves(source, bytes, text)?;
-        differing += say(out, same, case)?;
-        case += 1;
+    let mut tally = Tally::new();
+    while tally.cases < u64::MAX && read(source, part, HEAD)? {
+        let head = Head::of(part);
+        let pool = &mut pool[..POOL.min(head.pool as usize)];
+        let text = &mut text[..ROOM.min(head.room as usize)];
+        let same = agrees(source, &head, part, pool, file, text)?;
+        tally.add(out, same)?;
     }
-    print_counts(out, case, differing)
+    tally.print(out, "retold")
 }
 
 fn main(rt: HostRuntime) -> io::Result<()> {
-    let mut bytes: [u8; BYTES] = [0; BYTES];
+    let mut part: [u8; PART] = [0; PART];
     let mut pool: [u32; POOL] = [0; POOL];
     let mut file: [u8; FILE] = [0; FILE];
-    let mut text: [u8; ROOM] = [compare::OTHER; ROOM];
+    let mut text: [u8; ROOM] = [OTHER; ROOM];
     retell_all(
         &mut rt.stdin(),
         &rt,
-        &mut bytes,
+        &mut part,
         &mut pool,
         &mut file,
         &mut text,

@@ -2,124 +2,116 @@
 // record.
 #![tactic(auto)]
 
-mod compare;
-mod stream;
-
-ghost use Rattle.std.specs.Prelude.{◌+◌, ◌≤◌, IfOk};
-
+use recorded::{Number, Recorded, Tally, fill, leaves, read};
+use refusals::Reason;
 use rows::{MOST, WIDTH};
 use std::io;
 use std::io::Read;
-use stream::{read, word};
 
 // The most words of a pool, which has two rows more than are ever used, and of each lent slice.
 const POOL: usize = WIDTH * (MOST + 2);
 
 const ROOM: usize = 131072;
 
-// The bytes of a head and of the longest part of a record.
-const BYTES: usize = stream::HEAD + 4 * POOL;
+// The bytes of a head, and of the longest part behind one.
+const HEAD: usize = 28;
 
-// The pool is that of a case.
-fn fill(bytes: &[u8], pool: &mut [u32]) {
-    let n = stream::fitting(bytes, stream::POOL, pool.len());
-    let mut i = 0;
-    while i < n {
-        pool[i] = word(bytes, stream::PART + 2 * i);
-        i += 1;
+const PART: usize = 4 * POOL;
+
+// What the slices are full of before they are lent.
+const OTHER_WORD: u16 = 0xFFFF;
+
+const OTHER_PLACE: u32 = 0xFFFF_FFFF;
+
+// The head of a case: the root; the lengths of the pool and of the two slices; the answer. That of `retell` has other lengths, so each program has its own.
+#[derive(Clone, Copy, Debug, PartialEq, Eq)]
+struct Head {
+    root: u32,
+    pool: u32,
+    words: u32,
+    places: u32,
+    answer: Recorded,
+}
+
+impl Head {
+    // The head of the bytes. Its last number is for other programs.
+    fn of(bytes: &[u8]) -> Head {
+        Head {
+            root: Number::at(bytes, 0),
+            pool: Number::at(bytes, 1),
+            words: Number::at(bytes, 2),
+            places: Number::at(bytes, 3),
+            answer: Recorded {
+                number: Number::at(bytes, 4),
+                value: Number::at(bytes, 5),
+            },
+        }
     }
 }
 
-// Reads the pool of a case; whether the check and the writer give the recorded answers.
-fn answers(
+// Whether the check gives the recorded answer. It doesn't refuse for want of room.
+fn checks(head: &Head, pool: &[u32]) -> bool {
+    let no_tree = Reason::NoTree as u32;
+    match trees::check(pool, head.root as usize) {
+        Ok(()) => head.answer.number != no_tree,
+        Err(refusal) => {
+            refusal.number() == no_tree
+                && head.answer.number == no_tree
+                && head.answer.value as usize == refusal.place()
+        }
+    }
+}
+
+// Whether the check and the writer give the recorded answers, and the writer leaves the recorded words and places. It is lent as
+// much of each buffer as the case says. What was left is compared in any case, which leaves it as the next case wants it.
+fn agrees(
     source: &mut impl Read,
-    bytes: &mut [u8; BYTES],
-    pool: &mut [u32; POOL],
-    words: &mut [u16; ROOM],
-    places: &mut [u32; ROOM],
+    head: &Head,
+    part: &mut [u8; PART],
+    pool: &mut [u32],
+    words: &mut [u16],
+    places: &mut [u32],
 ) -> io::Result<bool> {
-    let n = word(bytes, stream::POOL) as usize;
-    let whole = read(source, bytes, stream::HEAD, 4 * n)?;
-    fill(bytes, pool);
-    Ok(whole & compare::checks(bytes, pool) & compare::writes(bytes, pool, words, places))
+    let has_pool = read(source, part, 4 * head.pool as usize)?;
+    fill(pool, part);
+    let wrote = writer::write(pool, head.root as usize, words, places);
+    let count = head.answer.count();
+    let has_words = leaves(source, part, 2 * count, words, OTHER_WORD)?;
+    let has_places = leaves(source, part, 4 * count, places, OTHER_PLACE)?;
+    Ok(has_pool && checks(head, pool) && head.answer.is(wrote) && has_words && has_places)
 }
 
-// Reads the words and places of a record; whether they were left so. Both are compared in any case, which leaves them as the
-// next case wants them.
-fn leaves(
-    source: &mut impl Read,
-    bytes: &mut [u8; BYTES],
-    words: &mut [u16; ROOM],
-    places: &mut [u32; ROOM],
-) -> io::Result<bool> {
-    let count = stream::tokens(bytes);
-    let has_words = read(source, bytes, stream::HEAD, 2 * count)?
-        & compare::has_words(bytes, count, words);
-    let has_places = read(source, bytes, stream::HEAD, 4 * count)?
-        & compare::has_places(bytes, count, places);
-    Ok(has_words & has_places)
-}
-
-// Says that a case differs, unless it doesn't; how many differ.
-fn say(out: &impl Print, same: bool, case: u64) -> io::Result<u64>
-    ensures { IfOk result (λ n. n ≤ 1) }
-{
-    if same {
-        return Ok(0);
-    }
-    println!(out; "{case} differs")?;
-    Ok(1)
-}
-
-// The last line: the counts.
-fn print_counts(out: &impl Print, retraced: u64, differing: u64) -> io::Result<()> {
-    println!(out; "{retraced} retraced, {differing} differing")
-}
-
-// Reads the head of the next case; 1 if it is there, else 0. A proved loop has to end, and nothing says that a stream does, so
-// none is there either behind as many as can be counted, which no run gets to.
-fn take(source: &mut impl Read, bytes: &mut [u8], case: u64) -> io::Result<u64>
-    ensures { IfOk result (λ n. case + n ≤ 18446744073709551615) }
-{
-    if case == u64::MAX {
-        return Ok(0);
-    }
-    Ok(if read(source, bytes, 0, stream::HEAD)? {
-        1
-    } else {
-        0
-    })
-}
-
-// Retraces case after case.
+// Retraces case after case. A proved loop has to end, and nothing says that a stream does, so this one ends at a number of
+// cases that no run gets to.
 fn retrace_all(
     source: &mut impl Read,
     out: &impl Print,
-    bytes: &mut [u8; BYTES],
+    part: &mut [u8; PART],
     pool: &mut [u32; POOL],
     words: &mut [u16; ROOM],
     places: &mut [u32; ROOM],
 ) -> io::Result<()> {
-    let mut differing = 0;
-    let mut case = 0;
-    while 0 < take(source, bytes, case)? {
-        let same = answers(source, bytes, pool, words, places)?
-            & leaves(source, bytes, words, places)?;
-        differing += say(out, same, case)?;
-        case += 1;
+    let mut tally = Tally::new();
+    while tally.cases < u64::MAX && read(source, part, HEAD)? {
+        let head = Head::of(part);
+        let pool = &mut pool[..POOL.min(head.pool as usize)];
+        let words = &mut words[..ROOM.min(head.words as usize)];
+        let places = &mut places[..ROOM.min(head.places as usize)];
+        let same = agrees(source, &head, part, pool, words, places)?;
+        tally.add(out, same)?;
     }
-    print_counts(out, case, differing)
+    tally.print(out, "retraced")
 }
 
 fn main(rt: HostRuntime) -> io::Result<()> {
-    let mut bytes: [u8; BYTES] = [0; BYTES];
+    let mut part: [u8; PART] = [0; PART];
     let mut pool: [u32; POOL] = [0; POOL];
-    let mut words: [u16; ROOM] = [compare::OTHER_WORD; ROOM];
-    let mut places: [u32; ROOM] = [compare::OTHER_PLACE; ROOM];
+    let mut words: [u16; ROOM] = [OTHER_WORD; ROOM];
+    let mut places: [u32; ROOM] = [OTHER_PLACE; ROOM];
     retrace_all(
         &mut rt.stdin(),
         &rt,
-        &mut bytes,
+        &mut part,
         &mut pool,
         &mut words,
         &mut places,

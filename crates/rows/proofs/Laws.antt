@@ -2,7 +2,7 @@
 use Prim.Native.Nat.{ℕ, ◌+◌, ◌*◌, ◌/◌, ◌≤◌, ◌<◌}
 use native.Mathlib.Nat.{zero-add, suc-add}
 use native.Mathlib.Omega.{arith}
-use mathlib.Core.Path.{◌≡◌, refl, ap, ◌∙◌}
+use mathlib.Core.Path.{◌≡◌, refl, sym, ap, ◌∙◌}
 use mathlib.Core.Logic.{◌⊎◌, inl, inr, ⊎_elim}
 use mathlib.Core.Bool.{Bool, true, false, and-eq-true_iff}
 use mathlib.Core.List.{List, [], ◌∷◌, ◌++◌}
@@ -14,8 +14,9 @@ use Rattle.grammar.specs.Tree.{width, row, flag}
 use Rattle.grammar.specs.Parsed.{NoRow}
 use Rattle.grammar.specs.Script.{seat}
 use Rattle.rows.specs.Rows.{kind_word, mark_word, next_word, placed, built, Builds, is_row, linked, marked, read, bit}
-use Rattle.rows.specs.declared.Built.{Built}
-use Rattle.rows.specs.declared.Built.TheVariants.{Rows, Refused}
+use Rattle.std.specs.Prelude.{Result, Ok, Err}
+use Rattle.refusals.specs.Refusal.{Numbered, refusal}
+use Rattle.refusals.proofs.Laws.{same_number, same_place}
 use Rattle.rows.specs.declared.Flag.{Flag}
 
 -- ---- building
@@ -29,13 +30,13 @@ none_free rows n h = omega arith
 
 -- where a row is free it is built
 pub built_fits : (xs : List ℕ) (rows : ℕ) (ws : List ℕ) (place : ℕ)
-    → width * rows + width ≤ length xs → built xs rows ws place ≡ (Rows (rows + 1), placed xs rows ws)
+    → width * rows + width ≤ length xs → built xs rows ws place ≡ (Ok (rows + 1), placed xs rows ws)
 unfolding built
 built_fits xs rows ws place h = rw (lt-ltb rows (length xs / width) (omega arith))
 
 -- where none is free, nothing changes
 pub built_full : (xs : List ℕ) (rows : ℕ) (ws : List ℕ) (place : ℕ)
-    → length xs < width * rows + width → built xs rows ws place ≡ (Refused NoRow place, xs)
+    → length xs < width * rows + width → built xs rows ws place ≡ (Err (refusal NoRow place), xs)
 unfolding built
 built_full xs rows ws place h = rw (le-ltb rows (length xs / width) (omega arith))
 
@@ -53,11 +54,11 @@ pub record Denied (xs : List ℕ) (rows place n p : ℕ) (ys : List ℕ) : Type 
   pub pool : ys ≡ xs
 
 -- that a row was built, or none was free
-abbrev pub Outcome : (xs : List ℕ) (rows : ℕ) (ws : List ℕ) (place : ℕ) (r : Built) (ys : List ℕ) → Type 0
+abbrev pub Outcome : (xs : List ℕ) (rows : ℕ) (ws : List ℕ) (place : ℕ) (r : Result ℕ Numbered) (ys : List ℕ) → Type 0
 Outcome xs rows ws place r ys =
-    ((r ≡ Rows (rows + 1)) × Placed xs rows ws (rows + 1) ys) ⊎ ((r ≡ Refused NoRow place) × Denied xs rows place NoRow place ys)
+    ((r ≡ Ok (rows + 1)) × Placed xs rows ws (rows + 1) ys) ⊎ ((r ≡ Err (refusal NoRow place)) × Denied xs rows place NoRow place ys)
 
-module _ {xs : List ℕ} {rows : ℕ} {ws : List ℕ} {place : ℕ} {r : Built} {ys : List ℕ} (h : Builds xs rows ws place r ys) where
+module _ {xs : List ℕ} {rows : ℕ} {ws : List ℕ} {place : ℕ} {r : Result ℕ Numbered} {ys : List ℕ} (h : Builds xs rows ws place r ys) where
   -- one of the two holds
   pub outcome : Outcome xs rows ws place r ys
   outcome = go (ltb rows (length xs / width)) refl
@@ -66,18 +67,18 @@ module _ {xs : List ℕ} {rows : ℕ} {ws : List ℕ} {place : ℕ} {r : Built} 
       go true t =
           let fit : width * rows + width ≤ length xs = omega (arith, ltb-true rows (length xs / width) t) in
           let e = h.met ∙ built_fits xs rows ws place fit in
-          inl (ap (λ (o : Built × List ℕ). o.0) e, record { count = refl; fit = fit; pool = ap (λ (o : Built × List ℕ). o.1) e })
+          inl (ap (λ (o : Result ℕ Numbered × List ℕ). o.0) e, record { count = refl; fit = fit; pool = ap (λ (o : Result ℕ Numbered × List ℕ). o.1) e })
       go false t =
           let full : length xs < width * rows + width = omega (arith, ltb-false rows (length xs / width) t) in
           let e = h.met ∙ built_full xs rows ws place full in
-          inr (ap (λ (o : Built × List ℕ). o.0) e, record { number = refl; at = refl; full = full; pool = ap (λ (o : Built × List ℕ). o.1) e })
+          inr (ap (λ (o : Result ℕ Numbered × List ℕ). o.0) e, record { number = refl; at = refl; full = full; pool = ap (λ (o : Result ℕ Numbered × List ℕ). o.1) e })
 
   -- which of the two, by the answer
-  pub when_built : {k : ℕ} → r ≡ Rows k → Placed xs rows ws k ys
+  pub when_built : {k : ℕ} → r ≡ Ok k → Placed xs rows ws k ys
   when_built q = ⊎_elim (λ o. record { count = cc; fit = o.1.fit; pool = o.1.pool }) (λ o. let z : ◌≡◌ {A = ℕ} 0 1 = cc in absurd (omega arith)) outcome
 
-  pub when_refused : {n p : ℕ} → r ≡ Refused n p → Denied xs rows place n p ys
-  when_refused q = ⊎_elim (λ o. let z : ◌≡◌ {A = ℕ} 0 1 = cc in absurd (omega arith)) (λ o. record { number = cc; at = cc; full = o.1.full; pool = o.1.pool }) outcome
+  pub when_refused : {n p : ℕ} → r ≡ Err (refusal n p) → Denied xs rows place n p ys
+  when_refused q = ⊎_elim (λ o. let z : ◌≡◌ {A = ℕ} 0 1 = cc in absurd (omega arith)) (λ o. record { number = same_number (sym q ∙ o.0); at = same_place (sym q ∙ o.0); full = o.1.full; pool = o.1.pool }) outcome
 
 -- ---- a row that is there
 

@@ -1,11 +1,10 @@
 -- The rows of a pool: what building, linking, marking and reading one does.
-use Rattle.std.specs.Prelude.{ℕ, ◌+◌, ◌*◌, ◌/◌, ◌≡◌, Bool, ◌&&◌, cond, List, ◌++◌, leb, ltb, length, take, drop, set}
+use Rattle.std.specs.Prelude.{ℕ, ◌+◌, ◌*◌, ◌/◌, ◌≡◌, Bool, ◌&&◌, cond, List, ◌++◌, leb, ltb, length, take, drop, set, Result, Ok, Err}
 use Rattle.grammar.specs.Tree.{width, row, flag, Thread, Async, Grouped}
 use Rattle.grammar.specs.Parsed.{NoRow}
 use Rattle.grammar.specs.Script.{seat, word_of}
 use Rattle.rows.specs.declared.Row.{Row}
-use Rattle.rows.specs.declared.Built.{Built}
-use Rattle.rows.specs.declared.Built.TheVariants as answer
+use Rattle.refusals.specs.Refusal.{Numbered, refusal}
 use Rattle.rows.specs.declared.Flag.{Flag}
 use Rattle.rows.specs.declared.Flag.TheVariants as a
 
@@ -30,12 +29,12 @@ abbrev pub placed : (xs : List ℕ) (rows : ℕ) (ws : List ℕ) → List ℕ
 placed xs rows ws = take (width * rows) xs ++ (ws ++ drop (width * rows + width) xs)
 
 -- What building a row behind the first `rows` rows answers and leaves: the row, or a refusal at `place` where no row is free.
-unfoldable pub built : (xs : List ℕ) (rows : ℕ) (ws : List ℕ) (place : ℕ) → Built × List ℕ
-built xs rows ws place = cond (ltb rows (length xs / width)) (answer.Rows (rows + 1), placed xs rows ws) (answer.Refused NoRow place, xs)
+unfoldable pub built : (xs : List ℕ) (rows : ℕ) (ws : List ℕ) (place : ℕ) → Result ℕ Numbered × List ℕ
+built xs rows ws place = cond (ltb rows (length xs / width)) (Ok (rows + 1), placed xs rows ws) (Err (refusal NoRow place), xs)
 
 -- The promise of building a row: the answer r, and the pool as it is then, ys.
-pub record Builds (xs : List ℕ) (rows : ℕ) (ws : List ℕ) (place : ℕ) (r : Built) (ys : List ℕ) : Type 0 where
-  pub met : ◌≡◌ {A = Built × List ℕ} (r, ys) (built xs rows ws place)
+pub record Builds (xs : List ℕ) (rows : ℕ) (ws : List ℕ) (place : ℕ) (r : Result ℕ Numbered) (ys : List ℕ) : Type 0 where
+  pub met : ◌≡◌ {A = Result ℕ Numbered × List ℕ} (r, ys) (built xs rows ws place)
 
 -- Whether a reference, a row's number plus one, is that of a row in so many words.
 unfoldable pub is_row : (words reference : ℕ) → Bool

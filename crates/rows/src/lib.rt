@@ -6,27 +6,29 @@ ghost use Rattle.grammar.specs.Tree.{width, flag};
 ghost use Rattle.grammar.specs.Script.{rows, seat};
 ghost use Rattle.rows.specs.Rows.{words, Builds, is_row, linked, marked, bit, read};
 
+use refusals::{Reason, Refusal};
+
 // How many words a row takes.
 pub const WIDTH: usize = 9;
 
 // The most rows of a pool.
 pub const MOST: usize = 65535;
 
-// Where in its row some words stand.
+// Where in its row its words stand: the kind, the mark, the place, the first of its four children, the next row of its list, and the end.
 pub const KIND: usize = 0;
 
-const MARK: usize = 1;
+pub const MARK: usize = 1;
 
-const NEXT: usize = 7;
+pub const PLACE: usize = 2;
+
+pub const CHILD: usize = 3;
+
+pub const NEXT: usize = 7;
 
 const END: usize = 8;
 
-// The number of the refusal where no row is free.
-const NO_ROW: u32 = 3;
-
 // A row to build: its words but the one that says that no row is next.
-#[derive(Drop)]
-#[derive(Clone, Copy)]
+#[derive(Clone, Copy, Debug, PartialEq, Eq)]
 pub struct Row {
     pub kind: u32,
     pub mark: u32,
@@ -38,17 +40,8 @@ pub struct Row {
     pub end: u32,
 }
 
-// How many rows are there now; or a refusal, by its number and place.
-#[derive(Drop)]
-#[derive(Clone, Copy)]
-pub enum Built {
-    Rows(usize),
-    Refused(u32, usize),
-}
-
 // What a mark can say besides its number: a call on a thread, one not waited for, a row in brackets.
-#[derive(Drop)]
-#[derive(Clone, Copy)]
+#[derive(Clone, Copy, Debug, PartialEq, Eq)]
 pub enum Flag {
     Thread,
     Async,
@@ -77,36 +70,32 @@ fn fill(part: &mut [u32], row: Row)
 {
     part[KIND] = row.kind;
     part[MARK] = row.mark;
-    part[2] = row.place;
-    part[3] = row.c0;
-    part[4] = row.c1;
-    part[5] = row.c2;
-    part[6] = row.c3;
+    part[PLACE] = row.place;
+    part[CHILD] = row.c0;
+    part[CHILD + 1] = row.c1;
+    part[CHILD + 2] = row.c2;
+    part[CHILD + 3] = row.c3;
     part[NEXT] = 0;
     part[END] = row.end;
 }
 
-// A row behind the first `rows` rows of the pool, or a refusal at `place` where no row is free.
-pub fn build(pool: &mut [u32], rows: usize, row: Row, place: usize) -> Built
+// A row behind the first `rows` rows of the pool, and how many there are now; or a refusal at `place` where no row is free.
+pub fn build(pool: &mut [u32], rows: usize, row: Row, place: usize) -> Result<usize, Refusal>
     ensures { Builds pool.old rows (words row) place result pool.new }
 {
     if rows < pool.len() / WIDTH {
         let i = WIDTH * rows;
         fill(&mut pool[i..], row);
-        return Built::Rows(rows + 1);
+        return Ok(rows + 1);
     }
-    Built::Refused(NO_ROW, place)
+    Err(Refusal::new(Reason::NoRoom, place))
 }
 
 // Whether a reference is that of a row in so many words.
 fn is_row(words: usize, reference: usize) -> bool
     ensures { result ≡ is_row words reference }
 {
-    if 0 < reference {
-        reference <= words / WIDTH
-    } else {
-        false
-    }
+    0 < reference && reference <= words / WIDTH
 }
 
 // Where a word of the row with a reference stands.
@@ -171,9 +160,5 @@ pub fn word(pool: &[u32], reference: usize, k: usize) -> u32
 pub fn clear(pool: &mut [u32])
     ensures { pool.new ≡ replicate (length pool.old) 0 }
 {
-    let mut i = 0;
-    while i < pool.len() {
-        pool[i] = 0;
-        i += 1;
-    }
+    pool.fill(0);
 }

@@ -2,4 +2,3 @@
 pub mod Either
 pub mod Numbers
 pub mod Determined
-mod Digits

@@ -98,3 +98,5 @@ no_slot k i h = rw (get_or-eq_default (kind_of k).slots (no of names) {n = i} (o
 pub packed_small : (k : ℕ) → packed k < 2 ^ 40
 unfolding packed
 packed_small k = omega (arith, bounds k, code_small (slot k 0), code_small (slot k 1), code_small (slot k 2), code_small (slot k 3))
+
+pub ruleset digits = (slot_0, slot_1, slot_2, slot_3, no_slot, marks_there)

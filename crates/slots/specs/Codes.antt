@@ -1,5 +1,5 @@
 -- Slots and kinds as numbers.
-use Rattle.std.specs.Prelude.{ℕ, ◌+◌, ◌*◌, ◌/◌, ◌%◌, List, [], ◌∷◌, get_or}
+use Rattle.std.specs.Prelude.{ℕ, ◌+◌, ◌*◌, ◌/◌, ◌%◌, [], ◌∷◌, get_or}
 use Rattle.slots.specs.Slots.{Takes, expressions, statements, blocks, pairs, names, plain-identifier, any-root, Many, no, one, at_most_one, any, some, Slot, ◌of◌, kind_of, slot}
 
 -- The number for how many trees a slot takes, and the number for their kinds.

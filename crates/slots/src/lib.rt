@@ -15,7 +15,8 @@ const GROUPED: u32 = 256;
 // The number of a kind, 0 for no kind: two hexadecimal digits for each of how many marks it has and its slots c0, c1, c2 and c3. A slot's first digit
 // is how many it takes (0 none, 1 one, 2 one or none, 3 any number, 4 one or more), the second is which kinds (0 names, 1 expressions, 2 statements,
 // 3 blocks, 4 pairs, 5 a plain identifier, 6 a root). A line for each kind, and so longer than other functions; not a `const` array, which would be
-// built anew at each use.
+// built anew at each use. Not an enum of kinds: a lent pool may hold any number, and each has an answer.
+#[tactic(auto, using(crate::proofs::Numbers::packed_small), unfolding(crate::specs::Codes::packed, crate::specs::Slots::slot, crate::specs::Slots::kind_of, crate::specs::Slots::of_expressions, crate::specs::Slots::of_statements, crate::specs::Codes::code))]
 fn row(kind: u32) -> u64
     ensures { (result ≡ packed kind) × (result < 2 ^ 40) }
 {
@@ -59,6 +60,7 @@ fn row(kind: u32) -> u64
 }
 
 // What slot i of a kind takes, by number; 0 for no slot.
+#[tactic(auto, using(crate::proofs::Numbers::digits))]
 pub fn slot(kind: u32, i: usize) -> u8
     ensures { result ≡ code (slot kind i) }
 {
@@ -73,6 +75,7 @@ pub fn slot(kind: u32, i: usize) -> u8
 }
 
 // How many marks a kind has; 0 for no kind.
+#[tactic(auto, using(crate::proofs::Numbers::digits))]
 fn marks(kind: u32) -> u32
     ensures { (result ≡ (kind_of kind).marks) × (result < 256) }
 {
@@ -80,139 +83,78 @@ fn marks(kind: u32) -> u32
 }
 
 // Whether a kind is an expression's.
+#[tactic(auto, using(std::proofs::lemmas::Bool::Decides::nat_tests), unfolding(crate::specs::Slots::is_expression))]
 fn is_expression(kind: u32) -> bool
     ensures { result ≡ is_expression kind }
 {
-    if kind == 0 {
-        return false;
-    }
-    kind < 18
+    matches!(kind, 1..=17)
 }
 
 // Whether a mark is one of its kind's.
+#[tactic(auto, using(std::proofs::lemmas::Bool::Decides::nat_tests), unfolding(crate::specs::Slots::marked))]
 pub fn mark_good(kind: u32, mark: u32) -> bool
     ensures { result ≡ marked kind mark }
 {
     let n = marks(kind);
-    if mark < n {
-        return true;
-    }
-    if !is_expression(kind) {
-        return false;
-    }
-    if mark < GROUPED {
-        return false;
-    }
-    mark < GROUPED + n
+    mark < n || is_expression(kind) && GROUPED <= mark && mark < GROUPED + n
 }
 
 // Whether rows of this kind and mark are among those that a slot takes.
+#[tactic(auto, using(std::proofs::lemmas::Bool::Decides::nat_tests), unfolding(crate::specs::Codes::kinds_of, crate::specs::Slots::takes, crate::specs::Slots::is_statement))]
 fn kind_good(kinds: u8, kind: u32, mark: u32) -> bool
     ensures { result ≡ takes (kinds_of kinds) kind mark }
 {
-    if kinds == 1 {
-        return is_expression(kind);
+    match kinds {
+        1 => is_expression(kind),
+        2 => matches!(kind, 32..=45),
+        3 => kind == 46,
+        4 => kind == 19,
+        5 => kind == 2 && mark == 0,
+        6 => is_expression(kind) || matches!(kind, 32..=46),
+        _ => kind == 18,
     }
-    if kinds == 2 {
-        if kind < 32 {
-            return false;
-        }
-        return kind < 46;
-    }
-    if kinds == 3 {
-        return kind == 46;
-    }
-    if kinds == 4 {
-        return kind == 19;
-    }
-    if kinds == 5 {
-        if kind == 2 {
-            return mark == 0;
-        }
-        return false;
-    }
-    if kinds == 6 {
-        if is_expression(kind) {
-            return true;
-        }
-        if kind < 32 {
-            return false;
-        }
-        return kind < 47;
-    }
-    kind == 18
 }
 
 // Whether a slot is unused.
+#[tactic(auto, using(std::proofs::lemmas::Bool::Decides::nat_tests), unfolding(crate::specs::Codes::many_of))]
 fn is_no(s: u8) -> bool
     ensures { result ≡ is_no (slot_of s).many }
 {
-    let many = s / 16;
-    if many == 0 {
-        return true;
-    }
-    4 < many
+    !matches!(s / 16, 1..=4)
 }
 
 // Whether a slot takes a list.
+#[tactic(auto, using(std::proofs::lemmas::Bool::Decides::nat_tests), unfolding(crate::specs::Codes::many_of))]
 pub fn is_list(s: u8) -> bool
     ensures { result ≡ is_list (slot_of s).many }
 {
-    let many = s / 16;
-    if many == 3 {
-        return true;
-    }
-    many == 4
+    matches!(s / 16, 3 | 4)
 }
 
 // Whether a row of this kind, mark and next fits the slot that it stands in.
+#[tactic(auto, using(std::proofs::lemmas::Bool::Decides::nat_tests), unfolding(crate::specs::Fine::taken))]
 pub fn taken_in(s: u8, kind: u32, mark: u32, next: u32) -> bool
     ensures { result ≡ taken (slot_of s) kind mark next }
 {
-    if is_no(s) {
-        return true;
-    }
-    if !kind_good(s % 16, kind, mark) {
-        return false;
-    }
-    if is_list(s) {
-        return true;
-    }
-    next == 0
+    is_no(s) || kind_good(s % 16, kind, mark) && (is_list(s) || next == 0)
 }
 
 // Whether the word of row r for a slot is as the slot wants it.
+#[tactic(auto, using(std::proofs::lemmas::Bool::Decides::nat_tests), unfolding(crate::specs::Codes::many_of))]
 pub fn child_good(s: u8, r: u32, c: u32) -> bool
     ensures { result ≡ child_fine (slot_of s).many r c }
 {
-    let many = s / 16;
-    if many == 1 {
-        if c == 0 {
-            return false;
-        }
-        return c < r;
+    match s / 16 {
+        1 | 4 => 0 < c && c < r,
+        2 | 3 => c < r,
+        _ => c == 0,
     }
-    if many == 4 {
-        if c == 0 {
-            return false;
-        }
-        return c < r;
-    }
-    if is_no(s) {
-        return c == 0;
-    }
-    c < r
 }
 
 // Whether a next word of row r is 0 or a later row of n.
+#[tactic(auto, using(std::proofs::lemmas::Bool::Decides::nat_tests), unfolding(crate::specs::Fine::next_fine))]
 pub fn next_good(n: u32, r: u32, next: u32) -> bool
     ensures { result ≡ next_fine n r next }
 {
-    if next == 0 {
-        return true;
-    }
-    if next <= r {
-        return false;
-    }
-    next <= n
+    next == 0 || r < next && next <= n
 }

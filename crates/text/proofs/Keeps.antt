@@ -13,7 +13,8 @@ use Rattle.unicode_text.specs.Claims.{Scalars}
 use Rattle.unicode_text.proofs.Values.{some, encode_1, encode_2, encode_3, encode_4}
 use Rattle.unicode_text.proofs.Texts.{well_formed_texts}
 use Rattle.text.specs.Fold.{choose, pair, has_pair, folded}
-use Rattle.text.specs.Entries.{answer, fold_answer, fold_buffer, text_of}
+use Rattle.std.specs.Prelude.{Ok}
+use Rattle.text.specs.Entries.{fold_answer, fold_buffer, text_of}
 use Rattle.text.specs.Claims.{FoldKeeps, TextKeeps}
 use Rattle.text.proofs.Entries.{fold_then_text}
 
@@ -99,7 +100,7 @@ empty = refl
 pub text_keeps : TextKeeps
 text_keeps payload work e = go (has_pair payload) refl (leb (length (folded payload)) (length work)) refl
   where
-    behind : {n : ℕ} → fold_answer payload work ≡ answer 0 n → well_formed (text_of payload (fold_buffer payload work)) ≡ true
+    behind : {n : ℕ} → fold_answer payload work ≡ Ok n → well_formed (text_of payload (fold_buffer payload work)) ≡ true
     behind a = rw (fold_then_text payload work a).0 (fold_keeps payload e)
 
     go : (s : Bool) → has_pair payload ≡ s → (t : Bool) → leb (length (folded payload)) (length work) ≡ t → well_formed (text_of payload (fold_buffer payload work)) ≡ true

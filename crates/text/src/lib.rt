@@ -5,20 +5,9 @@ ghost use Rattle.std.specs.Prelude.{◌≡◌, ◌≤◌, length, drop};
 ghost use Rattle.text.specs.Fold.{folded, width_of, written};
 ghost use Rattle.text.specs.Entries.{fold_answer, fold_buffer, text_of};
 
-const BACKSLASH: u8 = 92;
+use refusals::{Reason, Refusal};
 
-// The refusal of a work buffer that is shorter than the folded text.
-const NO_ROOM: u32 = 3;
-
-// What folding answers.
-#[derive(Drop)]
-#[derive(Clone, Copy)]
-pub enum Folded {
-    // The length of the text.
-    Length(usize),
-    // A refusal's number, and its place.
-    Refused(u32, usize),
-}
+const BACKSLASH: u8 = b'\\';
 
 // How many bytes of the payload make the folded byte at `at`: 2 of a pair, 1 otherwise, and 0 behind the end.
 pub fn width(payload: &[u8], at: usize) -> usize
@@ -27,20 +16,13 @@ pub fn width(payload: &[u8], at: usize) -> usize
     if payload.len() <= at {
         return 0;
     }
-    let next = at + 1;
-    if next == payload.len() {
-        return 1;
+    match &payload[at..] {
+        [BACKSLASH, BACKSLASH, ..] => 2,
+        _ => 1,
     }
-    if payload[at] != BACKSLASH {
-        return 1;
-    }
-    if payload[next] != BACKSLASH {
-        return 1;
-    }
-    2
 }
 
-// The length of the folded text.
+// The length of the folded text. Here and below a turn goes on by a byte or two, so no iterator goes over the places.
 fn folded_length(payload: &[u8]) -> usize
     ensures { result ≡ length (folded payload.now) }
 {
@@ -67,20 +49,20 @@ fn write_folded(payload: &[u8], work: &mut [u8])
     }
 }
 
-// Folds the payload into the front of the work buffer, where it has a pair and the buffer has room.
-pub fn fold(payload: &[u8], work: &mut [u8]) -> Folded
+// Folds the payload into the front of the work buffer, where it has a pair and the buffer has room: the length of the text.
+pub fn fold(payload: &[u8], work: &mut [u8]) -> Result<usize, Refusal>
     ensures answer { result ≡ fold_answer payload.now work.old }
     ensures buffer { work.new ≡ fold_buffer payload.now work.old }
 {
     let count = folded_length(payload);
     if count == payload.len() {
-        return Folded::Length(count);
+        return Ok(count);
     }
     if work.len() < count {
-        return Folded::Refused(NO_ROOM, 0);
+        return Err(Refusal::new(Reason::NoRoom, 0));
     }
     write_folded(payload, work);
-    Folded::Length(count)
+    Ok(count)
 }
 
 // The text: the payload itself where it has no pair, otherwise the front of the work buffer that it was folded into.
@@ -89,10 +71,10 @@ pub fn text<'a>(payload: &'a [u8], work: &'a [u8]) -> &'a [u8]
 {
     let count = folded_length(payload);
     if count == payload.len() {
-        return payload;
+        payload
+    } else if count <= work.len() {
+        &work[..count]
+    } else {
+        &[]
     }
-    if count <= work.len() {
-        return &work[..count];
-    }
-    &work[..0]
 }

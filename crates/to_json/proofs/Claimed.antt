@@ -1,29 +1,29 @@
 -- What is shown is one text, and the line of a refusal or JSON.
-use Prim.Native.Nat.{ℕ, ◌≤◌}
+use Prim.Native.Nat.{ℕ}
 use native.Mathlib.Omega.{arith}
 use mathlib.Core.Path.{◌≡◌, refl, sym, ap, subst₂, ◌∙◌}
 use mathlib.Core.List.{List, [], ◌∷◌, ◌++◌}
 use mathlib.Core.Logic.{◌⊎◌, inl, inr}
-use lib.ListN.{length, take, replicate}
 use lib.Seq.{take-append_seam}
 use Rattle.grammar.specs.Tree.{Trees, sizes}
-use Rattle.grammar.specs.Parsed.{Parsed, read, refused}
+use Rattle.grammar.specs.Parsed.{read}
 use Rattle.grammar.specs.Script.{rows, pool}
 use Rattle.files.specs.Entry.{content}
 use Rattle.payloads.specs.Fields.{fields_of}
 use Rattle.payloads.specs.Claims.{Bytes}
 use Rattle.json_text.specs.Json.{text}
-use Rattle.json_writer.specs.declared.Told.{Told}
-use Rattle.json_writer.specs.Tells.{Tells, no_tree, too_deep, too_short, a_text}
+use Rattle.std.specs.Prelude.{Result}
+use Rattle.refusals.specs.Refusal.{Numbered}
+use Rattle.json_writer.specs.Tells.{no_tree, too_deep, too_short, a_text}
 use Rattle.json_writer.specs.Claims.{Call}
 use Rattle.json_writer.proofs.Outcomes.{one_telling}
 use Rattle.json_writer.proofs.Same.{writes_json}
-use Rattle.to_json.specs.Shown.{outcome, no, printed, ShowsTree, told_of, Shows, no_script, a_script}
+use Rattle.to_json.specs.Shown.{outcome, no, printed, ShowsTree, told_of, no_script, a_script}
 use Rattle.to_json.specs.Claims.{OneText, Json, LineOrJson}
 
 -- of a tree
 one_line : {pool file : List ℕ} {root room : ℕ} {x y : List ℕ} → ShowsTree pool root file room x → ShowsTree pool root file room y → x ≡ y
-one_line (told_of v) (told_of w) = ap (λ (o : Told × List ℕ). printed o.0 o.1) (one_telling v w)
+one_line (told_of v) (told_of w) = ap (λ (o : Result ℕ Numbered × List ℕ). printed o.0 o.1) (one_telling v w)
 
 -- of a file
 same_read : {us vs : Trees} {at at' left left' : ℕ} → read us at left ≡ read vs at' left' → us ≡ vs

@@ -10,10 +10,9 @@ ghost use Rattle.files.specs.Entry.{content};
 ghost use Rattle.lines.specs.Lines.{longest};
 ghost use Rattle.to_json.specs.Shown.{outcome, no, ShowsTree, most, Shows};
 
-use answer::Answer;
-use files::Fields;
-use json_writer::Told;
+use answer::{Accepted, Answer};
 use modes::Mode;
+use refusals::Refusal;
 use rows::WIDTH;
 use std::io;
 
@@ -35,19 +34,16 @@ fn read(bytes: &[u8], tokens: &mut [u16], pool: &mut [u32]) -> Answer
     ensures pool { (us : Trees) (at left : ℕ) → outcome (content bytes.now (length tokens.old)) (rows (length pool.old)) ≡ read us at left
         → pool.new ≡ laid (length pool.old) (read us at left) }
 {
-    let fields = files::read(bytes, tokens);
-    match fields {
-        Fields::Count(n) => parser::whole_script(&tokens[..n], pool, Mode::Old),
-        Fields::Refused(number, place) => Answer::Refused(number, place),
-    }
+    let n = files::read(bytes, tokens)?;
+    parser::whole_script(&tokens[..n], pool, Mode::Old)
 }
 
 // The line of a refusal in front of a buffer that is long enough for any; its length.
-fn refuse(number: u32, place: usize, out: &mut [u8]) -> usize
+fn refuse(refusal: Refusal, out: &mut [u8]) -> usize
     requires { longest ≤ length out.old }
-    ensures { (result ≤ length out.old) × (take result out.new ≡ no number place) }
+    ensures { (result ≤ length out.old) × (take result out.new ≡ no refusal.number refusal.place) }
 {
-    lines::first_line(Answer::Refused(number, place), out)
+    lines::first_line(Err(refusal), out)
 }
 
 // The text of a tree and a newline in front of a buffer, or the line of the writer's refusal; its length.
@@ -58,11 +54,11 @@ fn tell(pool: &[u32], root: usize, file: &[u8], out: &mut [u8]) -> usize
     let room = out.len() - 1;
     let told = json_writer::write(pool, root, file, &mut out[..room]);
     match told {
-        Told::Bytes(n) => {
+        Ok(n) => {
             out[n] = b'\n';
             n + 1
         }
-        Told::Refused(number, place) => refuse(number, place, out),
+        Err(refusal) => refuse(refusal, out),
     }
 }
 
@@ -70,10 +66,9 @@ fn tell(pool: &[u32], root: usize, file: &[u8], out: &mut [u8]) -> usize
 fn show(bytes: &[u8], tokens: &mut [u16], pool: &mut [u32], out: &mut [u8; OUT]) -> usize
     ensures { (result ≤ length out.new) × Shows bytes.now (length tokens.old) (length pool.old) most (take result out.new) }
 {
-    let answer = read(bytes, tokens, pool);
-    match answer {
-        Answer::Accepted(root, _, _) => tell(pool, root as usize, bytes, out),
-        Answer::Refused(number, place) => refuse(number, place, out),
+    match read(bytes, tokens, pool) {
+        Ok(Accepted { root, .. }) => tell(pool, root as usize, bytes, out),
+        Err(refusal) => refuse(refusal, out),
     }
 }
 

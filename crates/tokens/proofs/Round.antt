@@ -1,13 +1,14 @@
 -- A word's token has the word again where the word is valid, and is Invalid where it is not; a token's word has the token.
-use Prim.Native.Nat.{ℕ, zero, suc, ◌+◌, ◌*◌, ◌<◌}
+use Prim.Native.Nat.{ℕ, zero, suc, ◌+◌, ◌*◌, ◌%◌, ◌≤◌, ◌<◌}
 use native.Mathlib.Nat.{div-add-mod', le_of_suc-le-suc, not-suc-le-zero}
 use native.Mathlib.Omega.{arith}
 use mathlib.Core.Path.{◌≡◌, refl, sym, ap, ◌∙◌}
-use mathlib.Core.Bool.{Bool, true, false}
+use mathlib.Core.Bool.{Bool, true, false, ◌||◌}
 use mathlib.Core.List.{List, [], ◌∷◌, map}
 use lib.ListN.{length, get_or, get_or-eq_default}
 use lib.Dec.{eqb, ltb}
-use borrow.Author.Tests.{eqb-true, ltb-true, ltb-false}
+use lib.Bits.{bit_and, and_mask}
+use borrow.Author.Tests.{eqb-true, ltb-true, ltb-false, ne_eqb}
 use Rattle.grammar.specs.Words as g
 use Rattle.tokens.specs.declared.Symbol.TheVariants.{SInvalid}
 use Rattle.tokens.specs.declared.Keyword.TheVariants.{KInvalid}
@@ -21,6 +22,21 @@ use Rattle.tokens.proofs.Arms.{symbol_coded, keyword_coded}
 -- How many codes a class has.
 abbrev pub count : ℕ → ℕ
 count c = get_or g.codes c 0
+
+-- Only operators and keywords have more than one code, and only a class of the table has one.
+pub one_code : (k : ℕ) → k < 11 → (k ≡ 8 → ⊥) → (k ≡ 9 → ⊥) → count k ≡ 1
+unfolding g.codes
+one_code k l m n = eqb-true (count k) 1 (rw (ne_eqb k 8 m, ne_eqb k 9 n) at (under (λ k. eqb k 8 || (eqb k 9 || eqb (count k) 1)) 11 refl k l))
+
+pub no_code : (k : ℕ) → 11 ≤ k → count k ≡ 0
+unfolding g.codes
+no_code k h = get_or-eq_default g.codes 0 h
+
+pub ruleset counts = (one_code, no_code)
+
+-- A mask of eight bits leaves the remainder by 256.
+pub low_bits : (w : ℕ) → bit_and w 255 ≡ w % 256
+low_bits w = and_mask w 8
 
 -- The token of a class at a code.
 abbrev pub entry : ℕ → ℕ → Token
@@ -90,6 +106,21 @@ token_plain w k h c one =
     let few : g.code w < 1 = rw (c, one) at (ltb-true (g.code w) (count (g.class w)) h) in
     let zero : g.code w ≡ 0 = omega arith in
     rw (c, zero)
+
+-- The code of a valid word is one of its class.
+pub few : (w : ℕ) → g.valid w ≡ true → g.code w < count (g.class w)
+unfolding g.valid
+few w h = ltb-true (g.code w) (count (g.class w)) h
+
+pub valid_operator : (w : ℕ) → g.valid w ≡ true → g.class w ≡ g.Operator → token w ≡ Operator (symbol_at (g.code w))
+unfolding g.codes
+valid_operator w h c = token_operator w c (rw c at (few w h))
+
+pub valid_keyword : (w : ℕ) → g.valid w ≡ true → g.class w ≡ g.Keyword → token w ≡ Keyword (keyword_at (g.code w))
+unfolding g.codes
+valid_keyword w h c = token_keyword w c (rw c at (few w h))
+
+pub ruleset told = (few, few_classes, bad_token, valid_operator, valid_keyword, token_plain)
 
 -- The class and the code of a word that is made of them.
 split : (c k : ℕ) → k < 256 → (g.class (c * 256 + k) ≡ c) × (g.code (c * 256 + k) ≡ k)

@@ -5,21 +5,32 @@ ghost use Rattle.tokens.specs.Symbols.{symbol_code, keyword_code, symbol_at, key
 use crate::{Keyword, Symbol};
 
 // The code of a symbol.
+impl From<Symbol> for u8 {
+    ghost from_gives = { λ s n. n ≡ symbol_code s };
+
+    fn from(s: Symbol) -> u8 {
+        s as u8
+    }
+}
+
+// The same by name.
 pub fn symbol_code(s: Symbol) -> u8
     ensures { result ≡ symbol_code s }
 {
-    s as u8
+    u8::from(s)
 }
 
 // The code of a keyword.
-pub(crate) fn keyword_code(k: Keyword) -> u8
-    ensures { result ≡ keyword_code k }
-{
-    k as u8
+impl From<Keyword> for u8 {
+    ghost from_gives = { λ k n. n ≡ keyword_code k };
+
+    fn from(k: Keyword) -> u8 {
+        k as u8
+    }
 }
 
 // The symbol of a code: a line for each of the 41, and so longer than other functions.
-// Not a `const` array, which would be built anew at each use.
+// Not a `const` array, which would be built anew at each use; nor a `TryFrom`, since it requires that the code is one.
 pub(crate) fn symbol_of(code: u16) -> Symbol
     requires { code < 41 }
     ensures { result ≡ symbol_at code }

@@ -8,8 +8,7 @@ pub use codes::symbol_code;
 pub use word::{class_of, code_of, is_valid, token_of, word_of};
 
 // The symbol that an operator carries, in the order of the codes: SymbolKind.
-#[derive(Drop)]
-#[derive(Clone, Copy)]
+#[derive(Clone, Copy, Debug, PartialEq, Eq)]
 pub enum Symbol {
     SInvalid,
     SPlus,
@@ -55,8 +54,7 @@ pub enum Symbol {
 }
 
 // The symbol that a keyword carries, in the order of the codes: KeywordKind.
-#[derive(Drop)]
-#[derive(Clone, Copy)]
+#[derive(Clone, Copy, Debug, PartialEq, Eq)]
 pub enum Keyword {
     KInvalid,
     KIf,
@@ -89,8 +87,7 @@ pub enum Keyword {
 }
 
 // A token, one of the eleven classes: TokenKind.
-#[derive(Drop)]
-#[derive(Clone, Copy)]
+#[derive(Clone, Copy, Debug, PartialEq, Eq)]
 pub enum Token {
     Invalid,
     Empty,

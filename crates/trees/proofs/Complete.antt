@@ -1,23 +1,20 @@
 -- A tree of different rows has no bad row: each link leads to the entry that it makes.
 use Prim.Native.Nat.{ℕ, zero, suc, ◌+◌, ◌-◌, ◌≤◌, ◌<◌}
-use native.Mathlib.Nat.{le_of_suc-le-suc, not-suc-le-zero}
 use native.Mathlib.Omega.{arith}
 use mathlib.Core.Path.{◌≡◌, refl, ap, sym, subst, ◌∙◌}
-use mathlib.Core.Bool.{Bool, true, false, not, ◌&&◌, ◌||◌}
+use mathlib.Core.Bool.{Bool, true, false, ◌&&◌}
 use mathlib.Core.Logic.{◌⊎◌, inl, inr, ⊎_elim}
 use mathlib.Core.List.{List, [], ◌∷◌, ◌++◌, map}
-use lib.Dec.{eqb, ltb, leb}
 use lib.ListN.{length}
-use borrow.Author.Tests.{eqb-true, ltb-true, lt-ltb, le-leb, ne_eqb, eq-eqb, not-true}
+use borrow.Author.Tests.{eqb-true, ltb-true, lt-ltb, le-leb, ne_eqb}
 use Rattle.grammar.specs.Tree.{Tree, infixed, node, Trees, nil, ◌▸◌}
 use Rattle.grammar.specs.Script.{word_of}
-use Rattle.slots.specs.Slots.{Slot, Many, no, one, at_most_one, any, some, ◌of◌, Takes, names, expressions, any-root, slot, takes, marked, counts, how_many, fits, all_fit}
+use Rattle.slots.specs.Slots.{Slot, Many, no, one, at_most_one, any, some, ◌of◌, Takes, expressions, any-root, slot, takes, marked, counts, how_many, fits, all_fit}
 use Rattle.slots.specs.Fine.{is_no, is_list, child_fine, next_fine, taken}
-use Rattle.trees.specs.Pool.{count, In, row_fine, Reached, start, on, Link, root_link, word_link, Stands, as_root, as_child, as_next, Twice, Bad, fault, twice, misfit}
+use Rattle.trees.specs.Pool.{count, In, row_fine, Reached, start, on, Link, root_link, word_link, Stands, as_root, as_child, as_next, Bad, fault, twice, misfit}
 use Rattle.trees.specs.Pool.{Holds, infix_row, row, HoldsAll, none, more}
-use Rattle.trees.specs.Verdict.{NoneBad}
 use Rattle.trees.specs.Complete.{Entry, entry, Has, Distinct, entries, below, Orderly, refs, Complete}
-use Rattle.slots.proofs.Either.{same_or, less_or, no_both}
+use Rattle.slots.proofs.Either.{less_or, no_both}
 use Rattle.trees.proofs.Firsts.{both_hold}
 use Rattle.trees.proofs.Sound.{infix_slots}
 

@@ -4,10 +4,10 @@ use native.Mathlib.Omega.{arith}
 use mathlib.Core.Path.{◌≡◌, refl}
 use mathlib.Core.Bool.{true}
 use mathlib.Core.List.{List}
+use Rattle.std.specs.Prelude.{Result, Ok}
 use Rattle.grammar.specs.Tree.{Tree}
+use Rattle.refusals.specs.Refusal.{Numbered}
 use Rattle.slots.specs.Slots.{any-root, fits}
-use Rattle.trees.specs.declared.Checked.{Checked}
-use Rattle.trees.specs.declared.Checked.TheVariants as answer
 use Rattle.trees.specs.Pool.{In, Holds}
 use Rattle.trees.specs.Verdict.{NoneBad, Verdict, no_root, bad_row, a_tree}
 use Rattle.trees.specs.Exact.{IsTree, Exact, Bounded}
@@ -32,7 +32,7 @@ module _ (pool : List ℕ) (root : ℕ) where
   pub none_bad : {t : Tree} → IsTree pool root t → NoneBad pool root
   none_bad {t} w = complete pool root t w.holds w.inside w.fitting w.in_no_list w.different w.in_order
 
-  a_tree_is : {c : Checked} → Verdict pool root c → c ≡ answer.Tree → (t : Tree) × IsTree pool root t
+  a_tree_is : {c : Result Unit Numbered} → Verdict pool root c → c ≡ Ok tt → (t : Tree) × IsTree pool root t
   a_tree_is (no_root n) e = absurd (let z : ◌≡◌ {A = ℕ} 0 1 = cc in omega arith)
   a_tree_is (bad_row i l) e = absurd (let z : ◌≡◌ {A = ℕ} 0 1 = cc in omega arith)
   a_tree_is (a_tree t i g h f) e = (t, is_tree i g h f)

@@ -1,22 +1,23 @@
 -- The pass over the rows: the slot that each stands in, and whether it is bad.
-use Prim.Native.Nat.{ℕ, ◌+◌, ◌*◌, ◌-◌, ◌/◌, ◌%◌, ◌≤◌, ◌<◌}
+use Prim.Native.Nat.{ℕ, ◌+◌, ◌-◌, ◌%◌, ◌≤◌, ◌<◌}
 use native.Mathlib.Omega.{arith}
 use mathlib.Core.Path.{◌≡◌, refl, ap, sym, subst, ◌∙◌}
-use mathlib.Core.Bool.{Bool, true, false, not, ◌&&◌, ◌||◌}
+use mathlib.Core.Bool.{Bool, true, false, not, ◌&&◌}
 use mathlib.Core.Logic.{◌⊎◌, inl, inr, ⊎_elim}
 use mathlib.Core.List.{List}
 use lib.ListN.{length, get_or, set, length-set}
 use lib.Seq.{get_or-set_same, get_or-set_other}
 use borrow.Author.Tests.{not-true, not-false}
+use Rattle.std.specs.Prelude.{None, Some}
 use Rattle.grammar.specs.Script.{word_of}
 use Rattle.slots.specs.Slots.{Slot, Many, no, one, at_most_one, any, some, ◌of◌, any-root, slot}
 use Rattle.slots.specs.Codes.{slot_of, many_of, kinds_of}
 use Rattle.slots.specs.Fine.{is_no, is_list, taken}
-use Rattle.trees.specs.Pool.{count, In, row_fine, Reached, start, on, Link, root_link, word_link, Stands, as_root, as_child, as_next, Twice, Bad, fault, twice, misfit}
-use Rattle.trees.specs.Survey.{Told, unreached, the_root, by_two, by_one, Surveyed, Linked, SlotBy, of_root, of_child, of_list, nowhere}
+use Rattle.trees.specs.Pool.{count, In, row_fine, Reached, start, on, Stands, as_root, as_child, as_next, Twice, Bad, fault, twice, misfit}
+use Rattle.trees.specs.Survey.{Told, unreached, the_root, by_two, by_one, Linked, SlotBy, of_root, of_child, of_list, nowhere}
 use Rattle.trees.specs.Verdict.{Lowest, NoneBad, First, none_bad, lowest}
 use Rattle.slots.proofs.Either.{same_or, no_both}
-use Rattle.trees.proofs.Links.{reached_in, link_reaches, root_once, word_once}
+use Rattle.trees.proofs.Linked.{reached_in, link_reaches, root_once, word_once}
 
 list_used : (m : Many) → is_list m ≡ true → is_no m ≡ false
 list_used no h = sym h
@@ -232,27 +233,18 @@ module _ (pool : List ℕ) (root : ℕ) where
   linked (by_two y z t) n₀ n₂ n₁ = absurd (n₂ z)
   linked (by_one rp ip lo hi e nr u) n₀ n₂ n₁ = (ip, lo, hi)
 
-  -- its row has a place among the slots
-  pub link_fits : {t owner word : ℕ} (stands : List ℕ) → Told pool root t owner word → count pool < length stands → owner < length stands
-  link_fits stands (unreached y z n) w = omega arith
-  link_fits stands (the_root y z e u) w = omega arith
-  link_fits stands (by_two y z t) w = omega arith
-  link_fits stands (by_one rp ip lo hi e nr u) w = omega (arith, ip)
-
   -- the first row, and behind the last
   pub first_row : {stands : List ℕ} → count pool < length stands → In pool root → Sofar stands 1
   first_row w i =
       record { some = omega arith; wide = w; good = λ q l x b. absurd (omega (arith, reached_in i x)); stood = λ q l x. absurd (omega (arith, reached_in i x)) }
 
-  pub last_row : {stands : List ℕ} {r : ℕ} → Sofar stands r → In pool root → count pool < r → First pool root 0
+  pub last_row : {stands : List ℕ} {r : ℕ} → Sofar stands r → In pool root → count pool < r → First pool root None
   last_row so i l = none_bad (λ q x b. so.good q (omega (arith, reached_in i x)) x b)
 
--- what the first bad row's number says
+-- what the first bad row says, or that there is none
 module _ (pool : List ℕ) (root : ℕ) where
-  pub no_bad : {p : ℕ} → First pool root p → p ≡ 0 → NoneBad pool root
-  no_bad (none_bad n) e = n
-  no_bad (lowest l) e = absurd (omega (arith, l.inside))
+  pub no_bad : First pool root None → NoneBad pool root
+  no_bad (none_bad n) = n
 
-  pub some_bad : {p : ℕ} → First pool root p → (p ≡ 0 → ⊥) → Lowest pool root p
-  some_bad (none_bad n) e = absurd (e refl)
-  some_bad (lowest l) e = l
+  pub some_bad : {p : ℕ} → First pool root (Some p) → Lowest pool root p
+  some_bad (lowest l) = l

@@ -14,8 +14,8 @@ use Rattle.grammar.specs.Script.{word_of, rows, pool}
 use Rattle.grammar.proofs.Laws.{rows as spends}
 use Rattle.grammar.proofs.Rows.{Held, Holds as Words, length_lay, two, four, more as behind}
 use Rattle.slots.specs.Slots.{Slot, ◌of◌, one, any-root, expressions, Takes, slot, takes, marked, counts, how_many, fits, all_fit}
-use Rattle.trees.specs.declared.Checked.{Checked}
-use Rattle.trees.specs.declared.Checked.TheVariants as answer
+use Rattle.std.specs.Prelude.{Result, Ok}
+use Rattle.refusals.specs.Refusal.{Numbered}
 use Rattle.trees.specs.Pool.{count, Holds, infix_row, row, HoldsAll, none, more}
 use Rattle.trees.specs.Verdict.{Verdict}
 use Rattle.trees.specs.Complete.{Entry, entry, Has, Distinct, entries, below, Orderly}
@@ -191,8 +191,8 @@ filled words at room t f l =
     subst₂ (λ (ws : List ℕ) (r : ℕ). IsTree ws r t) (sym (append_assoc (lay t 0 0) [] rest)) (omega arith) (laid t rest f (omega arith))
 
 -- one tree that fits and has room
-filled_passes : (words at left : ℕ) (us : Trees) (c : Checked) → how_many us ≡ 1 → all_fit any-root us ≡ true → sizes us ≤ rows words
-    → Verdict (pool words (read us at left)) (sizes us) c → c ≡ answer.Tree
+filled_passes : (words at left : ℕ) (us : Trees) (c : Result Unit Numbered) → how_many us ≡ 1 → all_fit any-root us ≡ true → sizes us ≤ rows words
+    → Verdict (pool words (read us at left)) (sizes us) c → c ≡ Ok tt
 unfolding all_fit
 filled_passes words at left nil c n f l v = absurd (omega (arith, n))
 filled_passes words at left (t ▸ nil) c n f l v =

@@ -1,7 +1,7 @@
 -- What is proved of the check, that each contract has one result, and what only the proofs here ask.
 pub mod Words
 mod Tests
-pub mod Links
+pub mod Linked
 mod Zeros
 mod Walk
 mod Firsts

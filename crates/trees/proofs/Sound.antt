@@ -1,26 +1,25 @@
 -- No bad row gives a tree: each row that the root reaches has one link, so no row is below itself.
 use Prim.Native.Nat.{ℕ, zero, suc, ◌+◌, ◌≤◌, ◌<◌}
-use native.Mathlib.Nat.{le_of_suc-le-suc, not-suc-le-zero}
 use native.Mathlib.Omega.{arith}
-use mathlib.Core.Path.{◌≡◌, refl, ap, sym, subst, ◌∙◌}
-use mathlib.Core.Bool.{Bool, true, false, not, ◌&&◌, ◌||◌}
-use mathlib.Core.Logic.{◌⊎◌, inl, inr, ⊎_elim}
+use mathlib.Core.Path.{◌≡◌, refl, sym, subst, ◌∙◌}
+use mathlib.Core.Bool.{Bool, true, false, ◌&&◌, ◌||◌}
+use mathlib.Core.Logic.{⊎_elim}
 use mathlib.Core.List.{List}
 use lib.Dec.{eqb, ltb, leb}
 use lib.ListN.{length, get_or, set, length-set, replicate, length-replicate}
-use lib.Seq.{get_or-set_same, get_or-set_other}
-use borrow.Author.Tests.{eqb-true, eqb-false, ltb-true, ltb-false, leb-true, ne_eqb, lt-ltb}
+use lib.Seq.{get_or-set_other}
+use borrow.Author.Tests.{eqb-true, ltb-true, leb-true, ne_eqb, lt-ltb}
 use Rattle.grammar.specs.Tree.{Tree, infixed, node, Trees, nil, ◌▸◌}
 use Rattle.grammar.specs.Script.{word_of}
 use Rattle.slots.specs.Slots.{Slot, Many, no, one, at_most_one, any, some, ◌of◌, Takes, names, expressions, any-root, slot, kind_of, of_expressions, of_statements, takes, marked, counts, how_many, fits, all_fit}
 use Rattle.slots.specs.Fine.{is_no, is_list, child_fine, next_fine, taken}
-use Rattle.trees.specs.Pool.{count, In, row_fine, Reached, start, on, Link, root_link, word_link, Stands, as_root, as_child, as_next, Twice, Bad, fault, twice, misfit}
+use Rattle.trees.specs.Pool.{count, In, row_fine, Reached, start, on, Link, root_link, word_link, Stands, as_root, as_child, as_next, fault, twice, misfit}
 use Rattle.trees.specs.Pool.{Holds, infix_row, row, HoldsAll, none, more}
 use Rattle.trees.specs.Verdict.{NoneBad}
 use Rattle.slots.proofs.Either.{same_or, no_both}
-use Rattle.trees.proofs.Links.{reached_in}
+use Rattle.trees.proofs.Linked.{reached_in}
 use Rattle.trees.proofs.Firsts.{both_hold}
-use Rattle.trees.proofs.Zeros.{zeros, zeros_set, zeros_replicate, zero_there}
+use Rattle.trees.proofs.Zeros.{zeros, zeros_set, zero_there}
 
 -- a test that doesn't fail holds
 pub holds_if : (b : Bool) → (b ≡ false → ⊥) → b ≡ true

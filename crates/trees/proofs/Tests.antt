@@ -2,7 +2,7 @@
 use Prim.Native.Nat.{ℕ}
 use native.Mathlib.Omega.{arith}
 use mathlib.Core.Path.{◌≡◌, ◌∙◌}
-use mathlib.Core.Bool.{Bool, ◌&&◌}
+use mathlib.Core.Bool.{Bool, true, false, ◌&&◌}
 use mathlib.Core.List.{List}
 use Rattle.grammar.specs.Script.{word_of}
 use Rattle.slots.specs.Slots.{slot, marked}
@@ -12,23 +12,35 @@ use Rattle.rows.specs.Rows.{read}
 use Rattle.trees.specs.Pool.{count, In, row_fine}
 use Rattle.trees.proofs.Words.{read_in}
 
-pub tests : (pool : List ℕ) (r s : ℕ) {kind mark next n : ℕ} {a b₀ b₁ b₂ b₃ d t : Bool} → In pool r → kind ≡ read pool r 0 → mark ≡ read pool r 1 → next ≡ read pool r 7
-    → n ≡ count pool → a ≡ marked kind mark → b₀ ≡ child_fine (slot kind 0).many r (word_of pool r 3) → b₁ ≡ child_fine (slot kind 1).many r (word_of pool r 4)
-    → b₂ ≡ child_fine (slot kind 2).many r (word_of pool r 5) → b₃ ≡ child_fine (slot kind 3).many r (word_of pool r 6)
-    → d ≡ next_fine n r next → t ≡ taken (slot_of s) kind mark next
-    → (a && b₀ && b₁ && b₂ && b₃ && d) && t ≡ row_fine pool r && taken (slot_of s) (word_of pool r 0) (word_of pool r 1) (word_of pool r 7)
+-- one more test of a chain: it is made, or one before it failed
+pub and_then : {before after test said : Bool} → before ≡ true → after ≡ test → test ≡ said → after ≡ before && said
+and_then b e t = rw (b, e, t)
+
+pub and_not : {before after : Bool} (said : Bool) → before ≡ false → after ≡ before → after ≡ before && said
+and_not said b e = rw (e, b)
+
+-- the tests of a row's own words
+pub tests : (pool : List ℕ) (r : ℕ) {kind mark next n : ℕ} {a v₀ v₁ v₂ v₃ v : Bool} → In pool r → kind ≡ read pool r 0 → mark ≡ read pool r 1 → next ≡ read pool r 7
+    → n ≡ count pool → a ≡ marked kind mark → v₀ ≡ a && child_fine (slot kind 0).many r (word_of pool r 3) → v₁ ≡ v₀ && child_fine (slot kind 1).many r (word_of pool r 4)
+    → v₂ ≡ v₁ && child_fine (slot kind 2).many r (word_of pool r 5) → v₃ ≡ v₂ && child_fine (slot kind 3).many r (word_of pool r 6)
+    → v ≡ v₃ && next_fine n r next → v ≡ row_fine pool r
 unfolding row_fine
-tests pool r s i ek em en ec ea e₀ e₁ e₂ e₃ ed et =
+tests pool r i ek em en ec ea e₀ e₁ e₂ e₃ ev =
     rw (
-      ea,
-      e₀,
-      e₁,
-      e₂,
+      ev,
       e₃,
-      ed,
-      et,
+      e₂,
+      e₁,
+      e₀,
+      ea,
       ek ∙ read_in pool r 0 i (omega arith),
       em ∙ read_in pool r 1 i (omega arith),
       en ∙ read_in pool r 7 i (omega arith),
       ec,
     )
+
+-- and of the slot that it stands in
+pub takes_row : (pool : List ℕ) (r : ℕ) (s : ℕ) {kind mark next : ℕ} → In pool r → kind ≡ read pool r 0 → mark ≡ read pool r 1 → next ≡ read pool r 7
+    → taken (slot_of s) kind mark next ≡ taken (slot_of s) (word_of pool r 0) (word_of pool r 1) (word_of pool r 7)
+takes_row pool r s i ek em en =
+    rw (ek ∙ read_in pool r 0 i (omega arith), em ∙ read_in pool r 1 i (omega arith), en ∙ read_in pool r 7 i (omega arith))

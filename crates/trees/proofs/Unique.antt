@@ -5,15 +5,14 @@ use mathlib.Core.Path.{◌≡◌, refl, ap, sym, ◌∙◌}
 use mathlib.Core.Logic.{⊎_elim}
 use mathlib.Core.List.{List}
 use lib.Seq.{ext_get_or}
-use Rattle.grammar.specs.Tree.{Tree, infixed, node, Trees, nil, ◌▸◌}
-use Rattle.grammar.specs.Script.{word_of}
-use Rattle.trees.specs.declared.Checked.{Checked}
-use Rattle.trees.specs.declared.Checked.TheVariants as answer
+use Rattle.std.specs.Prelude.{Result, Err}
+use Rattle.grammar.specs.Tree.{Tree, Trees, nil, ◌▸◌}
+use Rattle.refusals.specs.Refusal.{Numbered, refusal}
 use Rattle.trees.specs.Pool.{In, Holds, infix_row, row, HoldsAll, none, more}
-use Rattle.trees.specs.Verdict.{Lowest, NoneBad, Verdict, no_root, bad_row, a_tree}
+use Rattle.trees.specs.Verdict.{Lowest, Verdict, no_root, bad_row, a_tree}
 use Rattle.trees.specs.Leaves.{Zero, Leaves}
 use Rattle.slots.proofs.Either.{less_or}
-use Rattle.trees.proofs.Links.{one_survey}
+use Rattle.trees.proofs.Linked.{one_survey}
 
 module _ (pool : List ℕ) where
   first_of : {a b : Tree} → a ▸ nil ≡ b ▸ nil → a ≡ b
@@ -50,12 +49,12 @@ module _ (pool : List ℕ) where
         (λ x. ⊎_elim (λ y. absurd (l.first q y m.reached m.bad)) (λ y. omega arith) (less_or q p))
         (less_or p q)
 
-    pub one_answer : {a b : Checked} → Verdict pool root a → Verdict pool root b → a ≡ b
+    pub one_answer : {a b : Result Unit Numbered} → Verdict pool root a → Verdict pool root b → a ≡ b
     one_answer (no_root n) (no_root n') = refl
     one_answer (no_root n) (bad_row i l) = absurd (n i)
     one_answer (no_root n) (a_tree t i g h f) = absurd (n i)
     one_answer (bad_row i l) (no_root n) = absurd (n i)
-    one_answer (bad_row i l) (bad_row i' l') = ap (λ p. answer.Refused 38 p) (one_lowest l l')
+    one_answer (bad_row i l) (bad_row i' l') = ap (λ p. Err (refusal 38 p)) (one_lowest l l')
     one_answer (bad_row {p} i l) (a_tree t i' g h f) = absurd (g p l.reached l.bad)
     one_answer (a_tree t i g h f) (no_root n) = absurd (n i)
     one_answer (a_tree t i g h f) (bad_row {p} i' l) = absurd (g p l.reached l.bad)
@@ -67,13 +66,13 @@ one_zero {n} {xs} {ys} a b = ext_get_or 0 xs ys (a.long ∙ sym b.long) (λ i h.
 
 -- a survey has one answer, and leaves one thing
 module _ {pool : List ℕ} {root n : ℕ} where
-  same_links : {c c' : Checked} {a b q a' b' q' : List ℕ} → Leaves pool root n c a b q → Leaves pool root n c' a' b' q' → (a ≡ a') × (b ≡ b')
+  same_links : {c c' : Result Unit Numbered} {a b q a' b' q' : List ℕ} → Leaves pool root n c a b q → Leaves pool root n c' a' b' q' → (a ≡ a') × (b ≡ b')
   same_links {c} {c'} {a} {b} {q} {a'} {b'} {q'} l m = go l.verdict
     where
       rooted : In pool root → (a ≡ a') × (b ≡ b')
       rooted i = one_survey (l.links i) (m.links i) (l.owners_long ∙ sym m.owners_long) (l.words_long ∙ sym m.words_long)
 
-      go : {d : Checked} → Verdict pool root d → (a ≡ a') × (b ≡ b')
+      go : {d : Result Unit Numbered} → Verdict pool root d → (a ≡ a') × (b ≡ b')
       go (no_root out) =
           let y = l.none out in
           let z = m.none out in
@@ -81,8 +80,8 @@ module _ {pool : List ℕ} {root n : ℕ} where
       go (bad_row i p) = rooted i
       go (a_tree t i g h f) = rooted i
 
-  pub one_leaving : {c c' : Checked} {a b q a' b' q' : List ℕ} → Leaves pool root n c a b q → Leaves pool root n c' a' b' q'
-      → ◌≡◌ {A = Checked × List ℕ × List ℕ × List ℕ} (c, a, b, q) (c', a', b', q')
+  pub one_leaving : {c c' : Result Unit Numbered} {a b q a' b' q' : List ℕ} → Leaves pool root n c a b q → Leaves pool root n c' a' b' q'
+      → ◌≡◌ {A = Result Unit Numbered × List ℕ × List ℕ × List ℕ} (c, a, b, q) (c', a', b', q')
   one_leaving {c} {c'} {a} {b} {q} {a'} {b'} {q'} l m =
       let e : c ≡ c' = one_answer pool root l.verdict m.verdict in
       let s = same_links l m in

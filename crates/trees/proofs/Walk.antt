@@ -11,7 +11,7 @@ use Rattle.slots.proofs.Either.{same_or, less_or}
 use Rattle.trees.specs.Pool.{count, In, Reached, start, on, Link, root_link, word_link, Twice}
 use Rattle.trees.specs.Leaves.{Zero}
 use Rattle.trees.specs.Survey.{Looked, astray, first_time, again, Told, unreached, the_root, by_two, by_one, Surveyed}
-use Rattle.trees.proofs.Links.{reached_in}
+use Rattle.trees.proofs.Linked.{reached_in}
 use Rattle.trees.proofs.Zeros.{zeros, zeros_set, zeros_same, zeros_some, zeros_all}
 
 -- word k of row r was looked at: the row stands in the queue at a

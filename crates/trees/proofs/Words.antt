@@ -4,6 +4,7 @@ use native.Mathlib.Omega.{arith}
 use mathlib.Core.Path.{◌≡◌}
 use mathlib.Core.List.{List}
 use lib.ListN.{length, take}
+use Rattle.std.proofs.lemmas.List.{length-take}
 use lib.Seq.{take_all}
 use borrow.Author.Tests.{lt-ltb}
 use Rattle.grammar.specs.Tree.{width}
@@ -31,6 +32,10 @@ read_in pool r k i h = rw (is_inside (length pool) r i.0 (behind (length pool) r
 pub few : (n : ℕ) → n < width * suc few_rows → rows n ≤ few_rows
 unfolding rows
 few n h = omega arith
+
+pub few_front : (pool : List ℕ) → rows (length (front pool)) ≤ few_rows
+unfolding front
+few_front pool = few (length (front pool)) (simp length-take (omega arith))
 
 pub whole_front : (pool : List ℕ) → length pool < width * suc few_rows → front pool ≡ pool
 unfolding front

@@ -1,14 +1,10 @@
 -- How many zeros a list has: one fewer where one is overwritten.
-use Prim.Native.Nat.{ℕ, zero, suc, ◌+◌, ◌≤◌, ◌<◌}
+use Prim.Native.Nat.{ℕ, zero, suc, ◌<◌}
 use native.Mathlib.Nat.{le_of_suc-le-suc, not-suc-le-zero}
 use native.Mathlib.Omega.{arith}
-use mathlib.Core.Path.{◌≡◌, refl, ap, sym, ◌∙◌}
-use mathlib.Core.Logic.{⊎_elim}
+use mathlib.Core.Path.{◌≡◌, refl, ap}
 use mathlib.Core.List.{List, [], ◌∷◌}
-use lib.ListN.{length, get_or, set, replicate, get_or-eq_default}
-use lib.Seq.{get_or-set_same, get_or-set_other}
-use Rattle.slots.proofs.Either.{same_or, less_or}
-use Rattle.trees.specs.Leaves.{Zero}
+use lib.ListN.{length, get_or, set, replicate}
 
 abbrev pub zeros : List ℕ → ℕ
 zeros [] = 0
@@ -51,28 +47,6 @@ pub zero_there : (n i : ℕ) → ◌≡◌ {A = ℕ} (get_or (replicate n 0) i 0
 zero_there zero i = refl
 zero_there (suc n) zero = refl
 zero_there (suc n) (suc i) = zero_there n i
-
--- the first numbers of a list are 0: none, one more, all
-pub record Front (n : ℕ) (xs : List ℕ) : Type 0 where
-  pub each : (i : ℕ) → i < n → get_or xs i 0 ≡ 0
-
-pub front_none : (xs : List ℕ) → Front 0 xs
-front_none xs = record { each = λ i h. absurd (not-suc-le-zero h) }
-
-pub front_more : {n : ℕ} {xs : List ℕ} → Front n xs → n < length xs → Front (n + 1) (set xs n 0)
-front_more {n} {xs} f h =
-    record {
-      each =
-          λ i l. ⊎_elim (λ e. rw e (get_or-set_same xs n 0 0 h)) (λ e. get_or-set_other xs n i 0 0 e ∙ f.each i (omega arith)) (same_or i n);
-    }
-
-pub front_all : {n m : ℕ} {xs : List ℕ} → Front n xs → length xs ≤ n → length xs ≡ m → Zero m xs
-front_all {n} {m} {xs} f l e =
-    record {
-      long = e;
-      each =
-          λ i. ⊎_elim (λ h. f.each i (omega arith)) (λ h. get_or-eq_default xs 0 {n = i} h) (less_or i (length xs));
-    }
 
 -- a list of zeros has as many
 pub zeros_all : (xs : List ℕ) → ((i : ℕ) → get_or xs i 0 ≡ 0) → zeros xs ≡ length xs

@@ -1,8 +1,8 @@
 -- The rows of a tree that a pool holds: each with its owner, the owner's word, and the slot that it stands in.
-use Rattle.std.specs.Prelude.{ℕ, ◌≤◌, ◌<◌, ◌≡◌, true, ◌⊎◌, List, [], ◌∷◌, ◌++◌, map}
+use Rattle.std.specs.Prelude.{ℕ, ◌<◌, ◌≡◌, true, ◌⊎◌, List, [], ◌∷◌, ◌++◌, map}
 use Rattle.grammar.specs.Tree.{Tree, Trees}
 use Rattle.grammar.specs.Script.{word_of}
-use Rattle.slots.specs.Slots.{Slot, ◌of◌, one, any-root, slot, fits}
+use Rattle.slots.specs.Slots.{Slot, any-root, slot, fits}
 use Rattle.trees.specs.Pool.{In, Holds, infix_row, row, HoldsAll, none, more}
 use Rattle.trees.specs.Verdict.{NoneBad}
 

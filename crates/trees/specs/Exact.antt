@@ -1,12 +1,11 @@
 -- What a tree in a pool is, exactly: the check's answer, the number of its rows, and the rows that the parser lays out.
-use Rattle.std.specs.Prelude.{ℕ, ◌≤◌, ◌≡◌, true, List, ◌++◌}
+use Rattle.std.specs.Prelude.{ℕ, ◌≤◌, ◌≡◌, true, List, ◌++◌, Result, Ok}
 use Rattle.grammar.specs.Tree.{Tree, nil, ◌▸◌, size, sizes, lay}
 use Rattle.grammar.specs.Parsed.{read}
 use Rattle.grammar.specs.Script as script
 use Rattle.grammar.specs.Claims.{OfEntries}
+use Rattle.refusals.specs.Refusal.{Numbered}
 use Rattle.slots.specs.Slots.{any-root, fits, how_many, all_fit}
-use Rattle.trees.specs.declared.Checked.{Checked}
-use Rattle.trees.specs.declared.Checked.TheVariants as answer
 use Rattle.trees.specs.Pool.{count, In, Holds}
 use Rattle.trees.specs.Verdict.{Verdict}
 use Rattle.trees.specs.Complete.{Has, Distinct, Orderly, refs}
@@ -25,8 +24,8 @@ pub record IsTree (pool : List ℕ) (root : ℕ) (t : Tree) : Type 0 where
 abbrev pub Exact : Type 0
 Exact =
     (pool : List ℕ) (root : ℕ)
-    → (Verdict pool root answer.Tree → (t : Tree) × IsTree pool root t)
-    × ((t : Tree) (c : Checked) → IsTree pool root t → Verdict pool root c → c ≡ answer.Tree)
+    → (Verdict pool root (Ok tt) → (t : Tree) × IsTree pool root t)
+    × ((t : Tree) (c : Result Unit Numbered) → IsTree pool root t → Verdict pool root c → c ≡ Ok tt)
     × ((t u : Tree) → IsTree pool root t → IsTree pool root u → t ≡ u)
 
 -- A tree has no more rows than its pool.
@@ -46,6 +45,6 @@ Filled =
 -- So the check passes every tree that the parser reads into a pool, if it fits.
 abbrev pub Passes : Type 0
 Passes =
-    (words : ℕ) (c : Checked)
+    (words : ℕ) (c : Result Unit Numbered)
     → OfEntries (λ ts start room us at left.
-    room ≡ script.rows words → how_many us ≡ 1 → all_fit any-root us ≡ true → Verdict (script.pool words (read us at left)) (sizes us) c → c ≡ answer.Tree)
+    room ≡ script.rows words → how_many us ≡ 1 → all_fit any-root us ≡ true → Verdict (script.pool words (read us at left)) (sizes us) c → c ≡ Ok tt)

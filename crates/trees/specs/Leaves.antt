@@ -1,7 +1,7 @@
 -- What a survey answers and leaves in the memory that it is lent, and the part of a pool that a small one looks at.
-use Rattle.std.specs.Prelude.{ℕ, suc, ◌*◌, ◌-◌, ◌≡◌, List, length, get_or, take}
+use Rattle.std.specs.Prelude.{ℕ, suc, ◌*◌, ◌-◌, ◌≡◌, List, length, get_or, take, Result}
 use Rattle.grammar.specs.Tree.{width}
-use Rattle.trees.specs.declared.Checked.{Checked}
+use Rattle.refusals.specs.Refusal.{Numbered}
 use Rattle.trees.specs.Pool.{In}
 use Rattle.trees.specs.Survey.{Surveyed}
 use Rattle.trees.specs.Verdict.{Verdict}
@@ -26,7 +26,7 @@ pub record Cleared (n : ℕ) (owners words queue : List ℕ) : Type 0 where
   pub no_queue : Zero n queue
 
 -- The answer c, and what is left: the links of the rows that the root reaches, zeros where the pool has no such root, and a queue of zeros.
-pub record Leaves (pool : List ℕ) (root n : ℕ) (c : Checked) (owners words queue : List ℕ) : Type 0 where
+pub record Leaves (pool : List ℕ) (root n : ℕ) (c : Result Unit Numbered) (owners words queue : List ℕ) : Type 0 where
   pub verdict : Verdict pool root c
   pub owners_long : length owners ≡ n
   pub words_long : length words ≡ n

@@ -1,10 +1,10 @@
 -- What the survey of a pool finds out: of each row, how it is reached.
-use Rattle.std.specs.Prelude.{ℕ, ◌+◌, ◌-◌, ◌≤◌, ◌<◌, ◌≡◌, true, false, List, length, get_or, set}
+use Rattle.std.specs.Prelude.{ℕ, ◌+◌, ◌-◌, ◌≤◌, ◌<◌, ◌≡◌, true, false, List, get_or, set}
 use Rattle.grammar.specs.Script.{word_of}
 use Rattle.slots.specs.Slots.{one, ◌of◌, any-root, slot}
 use Rattle.slots.specs.Fine.{is_list}
 use Rattle.slots.specs.Codes.{slot_of}
-use Rattle.trees.specs.Pool.{count, In, Reached, Twice}
+use Rattle.trees.specs.Pool.{In, Reached, Twice}
 
 module _ (pool : List ℕ) where
   -- The link of a row t, two numbers that say how the root reaches it: 0 and 0 not at all, 0 and 1 as the root alone, 0 and 2 in two ways,

@@ -1,8 +1,7 @@
 -- What the check answers.
-use Rattle.std.specs.Prelude.{ℕ, ◌<◌, ◌≡◌, true, List, [], ◌∷◌}
+use Rattle.std.specs.Prelude.{ℕ, ◌<◌, ◌≡◌, true, List, [], ◌∷◌, Option, None, Some, Result, Ok, Err}
 use Rattle.grammar.specs.Tree.{Tree}
-use Rattle.trees.specs.declared.Checked.{Checked}
-use Rattle.trees.specs.declared.Checked.TheVariants as answer
+use Rattle.refusals.specs.Refusal.{Numbered, refusal}
 use Rattle.slots.specs.Slots.{any-root, fits}
 use Rattle.trees.specs.Pool.{In, Reached, Bad, Holds}
 
@@ -11,9 +10,9 @@ abbrev pub NoTree : ℕ
 NoTree = 38
 
 -- The number and the values of an answer: 0 and zeros, or a refusal's number and place, and zeros.
-abbrev pub numbers : Checked → List ℕ
-numbers answer.Tree = 0 ∷ 0 ∷ 0 ∷ 0 ∷ []
-numbers (answer.Refused number place) = number ∷ place ∷ 0 ∷ 0 ∷ []
+abbrev pub numbers : Result Unit Numbered → List ℕ
+numbers (Ok u) = 0 ∷ 0 ∷ 0 ∷ 0 ∷ []
+numbers (Err e) = e.number ∷ e.place ∷ 0 ∷ 0 ∷ []
 
 module _ (pool : List ℕ) (root : ℕ) where
   -- The lowest bad row that the root reaches.
@@ -26,13 +25,13 @@ module _ (pool : List ℕ) (root : ℕ) where
   abbrev pub NoneBad : Type 0
   NoneBad = (q : ℕ) → Reached pool root q → Bad pool root q → ⊥
 
-  -- The first bad row; 0 for none.
-  pub data First : ℕ → Type 0 where
-    none_bad : NoneBad → First 0
-    lowest : {p : ℕ} → Lowest p → First p
+  -- The first bad row, or none.
+  pub data First : Option ℕ → Type 0 where
+    none_bad : NoneBad → First None
+    lowest : {p : ℕ} → Lowest p → First (Some p)
 
   -- The answer: no root, the lowest bad row, or a tree.
-  pub data Verdict : Checked → Type 0 where
-    no_root : (In pool root → ⊥) → Verdict (answer.Refused NoTree 0)
-    bad_row : {p : ℕ} → In pool root → Lowest p → Verdict (answer.Refused NoTree p)
-    a_tree : (t : Tree) → In pool root → NoneBad → Holds pool root t → fits any-root t ≡ true → Verdict answer.Tree
+  pub data Verdict : Result Unit Numbered → Type 0 where
+    no_root : (In pool root → ⊥) → Verdict (Err (refusal NoTree 0))
+    bad_row : {p : ℕ} → In pool root → Lowest p → Verdict (Err (refusal NoTree p))
+    a_tree : (t : Tree) → In pool root → NoneBad → Holds pool root t → fits any-root t ≡ true → Verdict (Ok tt)

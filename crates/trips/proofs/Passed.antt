@@ -12,19 +12,19 @@ use Rattle.grammar.specs.Rules.{Rules}
 use Rattle.grammar.specs.Script.{rows, pool, one_expression, one_statement, whole_script}
 use Rattle.grammar.proofs.Laws.{rows as spends}
 use Rattle.modes.specs.Modes.{by}
-use Rattle.answer.specs.declared.Answer.TheVariants.{Accepted}
 use Rattle.slots.specs.Slots.{any-root, one, at_most_one, how_many, counts, fits, all_fit}
-use Rattle.trees.specs.declared.Checked.TheVariants as checked
 use Rattle.trees.specs.Exact.{IsTree}
 use Rattle.trees.proofs.Exact.{exact}
 use Rattle.trees.proofs.Unique.{one_tree}
 use Rattle.trees.proofs.Laid.{filled}
 use Rattle.written.specs.Written.{written}
 use Rattle.written.proofs.Fits.{parser_fits, parser_roots}
-use Rattle.writer.specs.declared.Wrote.{Wrote}
-use Rattle.writer.specs.declared.Wrote.TheVariants as wrote
 use Rattle.writer.specs.Wrote.{answered, Writes, no_tree, a_text}
-use Rattle.answer.specs.Answer.{Entered}
+use Rattle.std.specs.Prelude.{Result, Ok, Err}
+use Rattle.refusals.specs.Refusal.{Numbered}
+use Rattle.refusals.proofs.Laws.{not_both}
+use Rattle.answer.specs.Answer.{Entered, accepted}
+use Rattle.answer.proofs.Laws.{same_root, same_place}
 use Rattle.trips.specs.Promises.{OfAccepted, ParserPasses, ParserWritten}
 use Rattle.writer.proofs.Outcomes.{fitting}
 
@@ -49,14 +49,13 @@ not_none nil h n = absurd (n refl)
 not_none (t ▸ us) h n = omega (arith, ltb-true (how_many (t ▸ us)) 2 h)
 
 -- What an acceptance leaves is what was read.
-accepted : (P : Parsed Trees) (root used place lent : ℕ) (ys : List ℕ)
+has_some : (P : Parsed Trees) (root used place lent : ℕ) (ys : List ℕ)
     → ((us : Trees) (left : ℕ) → P ≡ read us place left → root ≡ sizes us → Some (sizes us) (pool lent (read us place left)))
-    → Entered P (Accepted root used place) lent ys → Some root ys
-accepted (refused n p) root used place lent ys f h = let a = h.answer in let z : ◌≡◌ {A = ℕ} 0 1 = cc in absurd (omega arith)
-accepted (read us at left) root used place lent ys f h =
-    let a = h.answer in
-    let e : root ≡ sizes us = cc in
-    let q : read us at left ≡ read us place left = cc in
+    → Entered P (Ok (accepted root used place)) lent ys → Some root ys
+has_some (refused n p) root used place lent ys f h = not_both refl h.answer
+has_some (read us at left) root used place lent ys f h =
+    let e : root ≡ sizes us = same_root h.answer in
+    let q : read us at left ≡ read us place left = ap (λ (p : ℕ). read us p left) (sym (same_place h.answer)) in
     subst₂ (λ k zs. Some k zs) (sym e) (sym (h.left ∙ ap (pool lent) q)) (f us left q e)
 
 -- The three entries.
@@ -78,9 +77,9 @@ module _ (rules : Rules) (ts : List ℕ) (start lent : ℕ) (us : Trees) (at lef
 
 trees : OfAccepted Some
 trees mode ts start lent root used place ys = (
-  λ h. accepted _ root used place lent ys (λ us left e q. (laid (by mode) ts start lent us place left).0 e) h,
-  λ h n. accepted _ root used place lent ys (λ us left e q. (laid (by mode) ts start lent us place left).1 e (λ z. n (q ∙ z))) h,
-  λ h. accepted _ root used place lent ys (λ us left e q. (laid (by mode) ts start lent us place left).2 e) h,
+  λ h. has_some _ root used place lent ys (λ us left e q. (laid (by mode) ts start lent us place left).0 e) h,
+  λ h n. has_some _ root used place lent ys (λ us left e q. (laid (by mode) ts start lent us place left).1 e (λ z. n (q ∙ z))) h,
+  λ h. has_some _ root used place lent ys (λ us left e q. (laid (by mode) ts start lent us place left).2 e) h,
 )
 
 -- What holds of every tree in a pool holds of these.
@@ -93,10 +92,10 @@ pub parser_passes : ParserPasses
 parser_passes = carry (λ root ys t i c v. (exact ys root).1 t c i v)
 
 -- The writer's answer for a tree, where there is room.
-writes : (ys : List ℕ) (root w p : ℕ) (r : Wrote) (ws ps : List ℕ) (t : Tree) → IsTree ys root t → length (written t) ≤ w → length (written t) ≤ p → Writes ys root w p r ws ps
-    → r ≡ wrote.Tokens (length (written t))
+writes : (ys : List ℕ) (root w p : ℕ) (r : Result ℕ Numbered) (ws ps : List ℕ) (t : Tree) → IsTree ys root t → length (written t) ≤ w → length (written t) ≤ p → Writes ys root w p r ws ps
+    → r ≡ Ok (length (written t))
 writes ys root w p r ws ps t i x y (no_tree number place v e a b) =
-    let q : checked.Refused number place ≡ checked.Tree = (exact ys root).1 t _ i v in let z : ◌≡◌ {A = ℕ} 0 1 = cc in absurd (omega arith)
+    not_both ((exact ys root).1 t _ i v) refl
 writes ys root w p r ws ps t i x y (a_text u v o f e a b) = e ∙ ap (λ k. answered (written k) w p) (one_tree ys o i.holds) ∙ fitting (written t) w p x y
 
 pub parser_written : ParserWritten

@@ -13,14 +13,14 @@ use Rattle.grammar.specs.Examples.{Entry, X, S, W}
 use Rattle.grammar.specs.Script.{longest, nesting, rows, pool}
 use Rattle.grammar.proofs.Laws.{rows as spends}
 use Rattle.modes.specs.Modes.{by}
-use Rattle.answer.specs.declared.Answer.{Answer}
 use Rattle.trees.specs.Exact.{IsTree}
 use Rattle.trees.proofs.Exact.{bounded}
 use Rattle.written.specs.Written.{written}
 use Rattle.written.specs.Claims.{plain, plains, deep, entry_of, asked, reread, back_from_end, Back, Deeper}
 use Rattle.written.proofs.Trip.{round_trip}
 use Rattle.written.proofs.Deep.{deep_refused}
-use Rattle.answer.specs.Answer.{Entered}
+use Rattle.refusals.proofs.Laws.{not_both}
+use Rattle.answer.specs.Answer.{Answer, Entered}
 use Rattle.trips.specs.Promises.{CameBack, IsTooDeep, OfTexts, RoundTripAnswered, ReadBackAnswered, DeepAnswered}
 use Rattle.trips.proofs.Texts.{of_tree}
 
@@ -72,7 +72,7 @@ by_depth pool root w p n ws ps t mode lent r ys h o any short room e =
 
 -- No answer is both.
 apart : {t : Tree} {n lent : ℕ} {r : Answer} {ys : List ℕ} → CameBack t n r lent ys → IsTooDeep n r → ⊥
-apart b d = let x = b.answer in let y = d.answer in let z : ◌≡◌ {A = ℕ} 0 1 = cc in omega arith
+apart b d = not_both b.answer d.answer
 
 module _ (t : Tree) (n : ℕ) (r : Answer) (lent : ℕ) (ys : List ℕ) (f : ByDepth t n r lent ys) where
   either : Dec (nesting < deep t) → CameBack t n r lent ys ⊎ IsTooDeep n r

@@ -2,6 +2,7 @@
 use mathlib.Core.Path.{◌≡◌, refl, ◌∙◌}
 use mathlib.Core.Bool.{Bool, true, false, cond, ◌&&◌, and-eq-true_iff}
 use mathlib.Core.List.{List, [], ◌∷◌, ◌++◌}
+use Rattle.std.specs.Prelude.{Some, None, slice_get}
 use Prim.Native.Nat.{ℕ, suc, ◌≤◌, ◌<◌}
 use native.Mathlib.Omega.{arith}
 use borrow.Author.Tests.{le-leb, lt-leb, ltb-true}
@@ -29,6 +30,15 @@ counted false k n e = absurd (omega arith)
 pub no_bytes : first table [] ≡ 0
 unfolding first table begins
 no_bytes = refl
+
+-- what a slice's first byte and those behind it say
+pub led : (part : List ℕ) {b : ℕ} → Some b ≡ slice_get part 0 → first table part ≡ first table (b ∷ drop 1 part)
+led [] e = let z : ◌≡◌ {A = ℕ} 0 1 = cc in absurd (omega arith)
+led (x ∷ xs) e = cc
+
+pub none_led : (part : List ℕ) → None ≡ slice_get part 0 → first table part ≡ 0
+none_led [] e = no_bytes
+none_led (x ∷ xs) e = let z : ◌≡◌ {A = ℕ} 0 1 = cc in absurd (omega arith)
 
 module _ (b : ℕ) (bytes : List ℕ) where
   -- a byte in the first range of a row, behind it, and before it
@@ -118,3 +128,5 @@ module _ (b : ℕ) (bytes : List ℕ) where
   pub no_row_behind : 0xF5 ≤ b → first table (b ∷ bytes) ≡ 0
   unfolding table below first
   no_row_behind l = passed 0xF5 table [] refl l
+
+pub ruleset rows = (led, none_led, row_1, row_2, row_3, row_4, row_5, row_6, row_7, row_8, row_9, no_row, no_row_behind)

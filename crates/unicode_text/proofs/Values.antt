@@ -1,6 +1,6 @@
 -- Scalar values and their bytes, by size.
 use mathlib.Core.Path.{◌≡◌, refl}
-use mathlib.Core.Bool.{Bool, true, false, cond, not, and-eq-true_iff, and-true, and-false}
+use mathlib.Core.Bool.{Bool, true, false, cond, not, and-eq-true_iff}
 use mathlib.Core.Logic.{◌⊎◌, inl, inr}
 use mathlib.Core.List.{[], ◌∷◌}
 use Prim.Native.Nat.{ℕ, ◌+◌, ◌*◌, ◌-◌, ◌/◌, ◌%◌, ◌≤◌, ◌<◌}
@@ -20,14 +20,16 @@ pub high_scalar : (c : ℕ) → 0xDFFF < c → c ≤ 0x10FFFF → scalar c ≡ t
 unfolding scalar
 high_scalar c h k = rw (le-leb c 0x10FFFF k, le-leb 0xD800 c (omega arith), lt-leb c 0xDFFF h)
 
--- among them there is none, and behind them the last one decides
+-- among them there is none, and none above the last
 pub no_scalar : (c : ℕ) → 0xD800 ≤ c → c ≤ 0xDFFF → scalar c ≡ false
 unfolding scalar
 no_scalar c l h = rw (le-leb c 0x10FFFF (omega arith), le-leb 0xD800 c l, le-leb c 0xDFFF h)
 
-pub behind_scalar : (c : ℕ) → 0xDFFF < c → scalar c ≡ leb c 0x10FFFF
+pub above_scalar : (c : ℕ) → 0x10FFFF < c → scalar c ≡ false
 unfolding scalar
-behind_scalar c h = rw (lt-leb c 0xDFFF h, and-false (leb 0xD800 c)) (and-true (leb c 0x10FFFF))
+above_scalar c h = rw (lt-leb c 0x10FFFF h)
+
+pub ruleset scalars = (low_scalar, high_scalar, no_scalar, above_scalar)
 
 -- what a scalar value is not
 pub record Point (c : ℕ) : Type 0 where

@@ -11,11 +11,9 @@ use lib.Seq.{drop-cons}
 use lib.Dec.{eqb, ltb, leb, eqb-suc-suc, eqb-zero-suc}
 use borrow.Author.Tests.{eqb-true, ltb-true, ltb-false, leb-true, not-true, eq-eqb, lt-ltb, le-leb}
 use Rattle.grammar.specs.Words.{EOF, class, code, codes, valid, tok, step}
-use Rattle.grammar.specs.Parsed.{met, failed, need, BadArray}
+use Rattle.grammar.specs.Parsed.{Check, met, failed, need, BadArray}
 use Rattle.grammar.specs.Script.{both, words_good, array_good, longest}
 use Rattle.grammar.proofs.Checks.{both_met, need_met}
-use Rattle.tokens.specs.Tokens.{word, token}
-use Rattle.tokens.proofs.Round.{word_token}
 use Rattle.words.proofs.Steps.{step_one}
 
 -- Whether a word may stand before the last.
@@ -71,6 +69,35 @@ each_good at (w ∷ v ∷ ws) h (suc i) l =
     let rest = each_good (suc at) (v ∷ ws) (both_met (need (inner w) BadArray at) (words_good (suc at) (v ∷ ws)) h).1 i (le_of_suc-le-suc l) in
     (rest.0, rest.1 ∙ sym (eqb-suc-suc (suc i) (length (v ∷ ws))))
 
+-- Every refusal of a check has the number of a bad array.
+bad_only : Check → Type 0
+bad_only met = Unit {0}
+bad_only (failed n p) = n ≡ BadArray
+
+need_bad : (b : Bool) (p : ℕ) → bad_only (need b BadArray p)
+unfolding need bad_only
+need_bad true p = tt
+need_bad false p = refl
+
+both_bad : (a b : Check) → bad_only a → bad_only b → bad_only (both a b)
+unfolding both bad_only
+both_bad met b h k = k
+both_bad (failed n p) b h k = h
+
+words_bad : (at : ℕ) (ws : List ℕ) → bad_only (words_good at ws)
+unfolding words_good bad_only
+words_bad at [] = tt
+words_bad at (w ∷ []) = need_bad _ at
+words_bad at (w ∷ v ∷ ws) = both_bad _ _ (need_bad _ at) (words_bad (suc at) (v ∷ ws))
+
+-- A bad array is refused by one number.
+pub array_number : (ts : List ℕ) {n p : ℕ} → array_good ts ≡ failed n p → n ≡ BadArray
+unfolding array_good bad_only
+array_number ts {n} {p} e =
+    let a : bad_only (array_good ts) = both_bad _ _ (need_bad _ 0) (words_bad 0 ts) in
+    let h : bad_only (failed n p) = rw e at a in
+    h
+
 -- What a good array has.
 pub record Sound (ts : List ℕ) : Type 0 where
   pub few : length ts ≤ 32768
@@ -120,7 +147,3 @@ sound {ts} h = record { few = leb-true _ _ size.1; some = some; all_valid = all_
             let past : length ts ≤ at + 1 = ltb-false _ _ e in
             let q : at ≡ length ts - 1 = omega arith in
             absurd (n (ap (λ k. get_or ts k EOF) q ∙ last))
-
--- A word of a good array is that of its token.
-pub read_word : {ts : List ℕ} → Sound ts → (at : ℕ) → word (token (tok ts at)) ≡ tok ts at
-read_word {ts} s at = word_token (tok ts at) (s.all_valid at)

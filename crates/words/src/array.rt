@@ -1,44 +1,39 @@
 // The check of an array of token words.
-ghost use Rattle.std.specs.Prelude.{◌≡◌};
+ghost use Rattle.std.specs.Prelude.{◌≡◌, Err};
 ghost use Rattle.grammar.specs.Script.{array_good};
-ghost use Rattle.words.specs.Array.{checked};
+ghost use Rattle.grammar.specs.Parsed.{BadArray};
+ghost use Rattle.refusals.specs.Refusal.{refusal, checked};
 
 use crate::places::EOF;
+use refusals::{Reason, Refusal};
 use tokens::is_valid;
 
-// Whether an array is good, or the place where it is not.
-#[derive(Drop)]
-#[derive(Clone, Copy)]
-pub enum Checked {
-    Good,
-    Bad(usize),
+// The refusal of a place.
+fn bad(place: usize) -> Result<(), Refusal>
+    ensures { result ≡ Err (refusal BadArray place) }
+{
+    Err(Refusal::new(Reason::BadArray, place))
 }
 
-// An array of 1 to 32,768 valid words with EOF last and nowhere else is good; another has the place of the first that is not.
-pub fn check(tokens: &[u16]) -> Checked
-    ensures { result ≡ checked (array_good tokens.now) }
+// The most tokens of an array.
+const LONGEST: usize = 32768;
+
+// An array of 1 to 32,768 valid words with EOF last and nowhere else is good; another is refused at the first that is not.
+pub fn check(tokens: &[u16]) -> Result<(), Refusal>
+    ensures { result ≡ checked (array_good tokens.now) tt }
 {
-    if tokens.len() == 0 {
-        return Checked::Bad(0);
-    }
-    if 32768 < tokens.len() {
-        return Checked::Bad(0);
+    if tokens.is_empty() || LONGEST < tokens.len() {
+        return bad(0);
     }
     let last = tokens.len() - 1;
-    let mut at: usize = 0;
-    while at < last {
-        let word = tokens[at];
-        if word == EOF {
-            return Checked::Bad(at);
+    for (at, &word) in tokens[..last].iter().enumerate() {
+        if word == EOF || !is_valid(word) {
+            return bad(at);
         }
-        if !is_valid(word) {
-            return Checked::Bad(at);
-        }
-        at += 1;
     }
     if tokens[last] == EOF {
-        Checked::Good
+        Ok(())
     } else {
-        Checked::Bad(last)
+        bad(last)
     }
 }

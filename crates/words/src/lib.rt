@@ -4,7 +4,7 @@
 mod array;
 mod places;
 
-pub use array::{Checked, check};
+pub use array::check;
 pub use places::{
     Cursor, current, current_is, current_symbol_is, is_identifier, iterate, next, next_is,
     next_keyword_is, next_symbol_is,

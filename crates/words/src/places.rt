@@ -3,7 +3,7 @@ ghost use Rattle.std.specs.Prelude.{◌≡◌};
 ghost use Rattle.grammar.specs.Words.{Identifier, tok, step, is, next_is};
 ghost use Rattle.tokens.specs.Tokens.{token, word};
 
-use tokens::{Keyword, Symbol, Token, token_of, word_of};
+use tokens::{Keyword, Symbol, Token};
 
 // A place in an array of token words.
 pub type Cursor = usize;
@@ -12,20 +12,22 @@ pub type Cursor = usize;
 pub(crate) const EOF: u16 = 512;
 
 // The word at a place, EOF past the end.
+#[tactic(auto, unfolding(grammar::specs::Words::tok))]
 fn word_at(tokens: &[u16], c: Cursor) -> u16
     ensures { result ≡ tok tokens.now c }
 {
-    if c < tokens.len() { tokens[c] } else { EOF }
+    tokens.get(c).copied().unwrap_or(EOF)
 }
 
 // The current token: get_current_token.
 pub fn current(tokens: &[u16], c: Cursor) -> Token
     ensures { result ≡ token (tok tokens.now c) }
 {
-    token_of(word_at(tokens, c))
+    Token::from(word_at(tokens, c))
 }
 
-// The cursor one token on, never past the last.
+// The cursor one token on, never past the last. The first test keeps the sum in range; one test alone, against the last place, was no faster.
+#[tactic(auto, using(std::proofs::lemmas::Bool::Decides::nat_tests), unfolding(grammar::specs::Words::step))]
 pub fn iterate(tokens: &[u16], c: Cursor) -> Cursor
     ensures { result ≡ step tokens.now c }
 {
@@ -44,18 +46,22 @@ pub fn next(tokens: &[u16], c: Cursor) -> Token
 }
 
 // Whether the current token is this one.
+#[tactic(auto, unfolding(grammar::specs::Words::is))]
 pub fn current_is(tokens: &[u16], c: Cursor, t: Token) -> bool
     ensures { result ≡ is tokens.now c (word t) }
 {
-    word_at(tokens, c) == word_of(t)
+    word_at(tokens, c) == u16::from(t)
 }
 
 // Whether the next token is this one.
+#[tactic(auto, unfolding(grammar::specs::Words::next_is))]
 pub fn next_is(tokens: &[u16], c: Cursor, t: Token) -> bool
     ensures { result ≡ next_is tokens.now c (word t) }
 {
     current_is(tokens, iterate(tokens, c), t)
 }
+
+// The four below say at each call whether a sign, a keyword or a name is asked for; one test over whatever becomes a token would say less there.
 
 // Whether the current token is an operator.
 pub fn current_symbol_is(tokens: &[u16], c: Cursor, s: Symbol) -> bool

@@ -1,22 +1,23 @@
 -- The walk as it goes on: what is written and what is still to be.
-use Prim.Native.Nat.{ℕ, zero, suc, ◌+◌, ◌*◌, ◌-◌, ◌≤◌, ◌<◌}
+use Prim.Native.Nat.{ℕ, ◌+◌, ◌*◌, ◌≤◌, ◌<◌}
 use native.Mathlib.Omega.{arith}
 use mathlib.Core.Path.{◌≡◌, refl, ap, sym, ◌∙◌}
-use mathlib.Core.Bool.{true}
-use mathlib.Core.List.{List, [], ◌∷◌, ◌++◌, append_assoc, append-nil, map, map-append}
+use mathlib.Core.Logic.{⊎_elim}
+use mathlib.Core.List.{List, [], ◌++◌, append_assoc, append-nil, map-append}
 use lib.ListN.{length, get_or, replicate, length-append, length-map}
 use lib.Seq.{sets}
-use Rattle.grammar.specs.Tree.{Tree, size}
-use Rattle.trees.specs.Pool.{count, In, Holds}
+use Rattle.grammar.specs.Tree.{size}
+use Rattle.trees.specs.Pool.{count, In}
 use Rattle.written.specs.Written.{Token, written}
 use Rattle.written.specs.Written as form
-use Rattle.writer.specs.Walk.{Moved, move, upward}
+use Rattle.writer.specs.Walk.{Moved, move}
 use Rattle.writer.specs.Wrote.{front, Turned}
 use Rattle.writer.specs.Ready.{Ready, Walked}
 use Rattle.trees.proofs.Unique.{one_tree}
 use Rattle.grammar.specs.Script.{rows}
 use Rattle.writer.specs.declared.walk.At.{At}
-use Rattle.writer.proofs.Fronts.{front_none, front_puts, front_length}
+use Rattle.slots.proofs.Either.{same_or}
+use Rattle.writer.proofs.Fronts.{front_none, front_puts}
 use Rattle.writer.proofs.Rest.{Stage, over, at_row, upwards, Right, step, first, steps}
 
 -- a step, by what the code says of it
@@ -73,14 +74,14 @@ module _ (pool : List ℕ) (root : ℕ) (owners links : List ℕ) (ready : Ready
       → Right pool root (move pool root at.row at.piece (owner_of at.row) (word_to at.row)) g.todo g.n
   next g nz = step pool root ready.good ready.inside owner_of word_to ready.told g.stage nz
 
-  -- there is a step left
-  pub some_left : {w p left : ℕ} {at : At} {ws ps : List ℕ} → Going w p at left ws ps → (at.row ≡ 0 → ⊥) → 1 ≤ left
-  some_left g nz = omega (arith, (next g nz).less, g.enough)
+  -- there is a step left while not all is written
+  pub no_more : {w p left : ℕ} {at : At} {ws ps : List ℕ} → Going w p at left ws ps → left ≡ 0 → at.row ≡ 0
+  no_more {at = at} g z = ⊎_elim (λ e. e) (λ nz. absurd (omega (arith, (next g nz).less, g.enough))) (same_or at.row 0)
 
   -- one more step
-  pub gone : {w p left : ℕ} {at : At} {ws ps : List ℕ} (to : At) (ws' ps' : List ℕ) → Going w p at left ws ps → (at.row ≡ 0 → ⊥)
-      → Turned pool root (owner_of at.row) (word_to at.row) at to ws ps ws' ps' → Going w p to (left - 1) ws' ps'
-  gone {w} {p} {left} {at} {ws} {ps} to ws' ps' g nz t =
+  pub gone : {w p left left' : ℕ} {at : At} {ws ps : List ℕ} (to : At) (ws' ps' : List ℕ) → left ≡ left' + 1 → Going w p at left ws ps → (at.row ≡ 0 → ⊥)
+      → Turned pool root (owner_of at.row) (word_to at.row) at to ws ps ws' ps' → Going w p to left' ws' ps'
+  gone {w} {p} {at = at} {ws} {ps} to ws' ps' one g nz t =
       let r = next g nz in
       let e = (move pool root at.row at.piece (owner_of at.row) (word_to at.row)).0 in
       let l : length (g.done ++ e) ≡ length g.done + length e = length-append g.done e in
@@ -126,7 +127,3 @@ module _ (pool : List ℕ) (root : ℕ) (owners links : List ℕ) (ready : Ready
   pub few_so_far : {w p left : ℕ} {at : At} {ws ps : List ℕ} → Going w p at left ws ps → at.count < 1000000
   unfolding rows
   few_so_far g = omega (arith, g.few, g.counted)
-
-  pub small_row : {w p left : ℕ} {at : At} {ws ps : List ℕ} → Going w p at left ws ps → (at.row ≡ 0 → ⊥) → at.row ≤ 65535
-  unfolding rows
-  small_row g nz = omega (arith, (placed g nz).0)

@@ -1,29 +1,28 @@
 -- What is still to be written from a row and one of its pieces on, and how a step of the writer goes on from there.
-use Prim.Native.Nat.{ℕ, zero, suc, ◌+◌, ◌*◌, ◌-◌, ◌/◌, ◌%◌, ◌≤◌, ◌<◌}
+use Prim.Native.Nat.{ℕ, zero, suc, ◌+◌, ◌*◌, ◌-◌, ◌≤◌, ◌<◌}
 use native.Mathlib.Omega.{arith}
-use mathlib.Core.Path.{◌≡◌, refl, ap, sym, subst, ◌∙◌}
+use mathlib.Core.Path.{◌≡◌, refl, ap, sym, ◌∙◌}
 use mathlib.Core.Bool.{Bool, true, false, cond, not, ◌&&◌, ◌||◌, and-eq-true_iff}
 use mathlib.Core.List.{List, [], ◌∷◌, ◌++◌, append_assoc, append-nil}
 use mathlib.Core.Logic.{◌⊎◌, inl, inr, ⊎_elim}
 use lib.Dec.{eqb, ltb, leb}
 use lib.ListN.{length, get_or, drop, length-drop}
 use native.Mathlib.Numerals.{add-one}
-use borrow.Author.Tests.{eqb-true, eqb-false, ne_eqb, eq-eqb, ltb-true, lt-ltb, leb-true, le-leb, le-ltb}
-use Rattle.grammar.specs.Words.{EOF, SComma, SDot}
+use borrow.Author.Tests.{eqb-true, eqb-false, ne_eqb, eq-eqb, ltb-true, lt-ltb, leb-true, le-ltb}
+use Rattle.grammar.specs.Words.{EOF}
 use Rattle.grammar.specs.Tree.{Tree, infixed, node, Trees, nil, ◌▸◌, size, sizes, width}
-use Rattle.grammar.specs.Script.{word_of, rows}
-use Rattle.slots.specs.Slots.{Takes, expressions, statements, blocks, pairs, names, plain-identifier, any-root, Many, no, one, at_most_one, any, some, Slot, ◌of◌, slot, kind_of, of_expressions, of_statements, takes, is_expression, is_statement, marked, counts, how_many, fits, all_fit}
-use Rattle.trees.specs.Pool.{count, In, Reached, start, on, Link, root_link, word_link, Twice, Bad, twice, Holds, infix_row, row, HoldsAll, none, more}
+use Rattle.grammar.specs.Script.{word_of}
+use Rattle.slots.specs.Slots.{Takes, expressions, statements, blocks, pairs, names, plain-identifier, any-root, Many, no, one, at_most_one, any, some, Slot, slot, kind_of, of_expressions, takes, is_expression, is_statement, marked, counts, how_many, fits, all_fit}
+use Rattle.trees.specs.Pool.{In, Reached, start, on, root_link, word_link, twice, Holds, infix_row, row, HoldsAll, none, more}
 use Rattle.trees.specs.Survey.{Told, unreached, the_root, by_two, by_one}
 use Rattle.trees.specs.Verdict.{NoneBad}
-use Rattle.rows.specs.Rows.{read}
 use Rattle.trees.proofs.Words.{read_in}
 use Rattle.written.specs.Written.{Token, Piece, sign, payload, by_mark, flagged, where_some, child, children, form, forms, look, piece, pieces, joined, separated, empty_slot, write, writes, written}
 use Rattle.written.proofs.Shapes.{or_true}
 use Rattle.slots.proofs.Either.{no_both}
 use Rattle.writer.specs.Codes.{shape, word_for, behind}
 use Rattle.writer.specs.Walk.{upward, shown, some_of, filled, text, Moved, into, between, along, up, onward, move}
-use Rattle.writer.proofs.Shapes.{real, single, are_statements, sign_between, fair, Piece-at, at_piece, few_pieces, behind_few, weigh, shape_weighs}
+use Rattle.writer.proofs.Shapes.{real, single, are_statements, sign_between, fair, at_piece, few_pieces, behind_few, weigh, shape_weighs}
 
 -- The most steps that a row takes: its pieces, its end, and the way up from it.
 abbrev pub steps : ℕ

@@ -1,23 +1,22 @@
 -- The numbers of pieces: the table of the forms, by one test that is computed, and what each number stands for.
 use Prim.Native.Nat.{ℕ, zero, suc, ◌+◌, ◌*◌, ◌-◌, ◌/◌, ◌%◌, ◌^◌, ◌≤◌, ◌<◌}
-use native.Mathlib.Nat.{eq-or-lt_of_le, le_of_suc-le-suc, not-suc-le-zero}
-use native.Mathlib.Numerals.{add-one}
+use native.Mathlib.Nat.{zero-div, eq-or-lt_of_le, le_of_suc-le-suc, not-suc-le-zero}
 use native.Mathlib.Omega.{arith}
 use mathlib.Core.Path.{◌≡◌, refl, ap, sym, ◌∙◌}
 use mathlib.Core.Bool.{Bool, true, false, cond}
 use mathlib.Core.List.{List, [], ◌∷◌, map}
 use mathlib.Core.Logic.{⊎_elim}
 use lib.Dec.{eqb, ltb}
-use lib.ListN.{length, get_or, drop, drop_of_length-le, get_or-map, get_or-eq_default}
+use lib.ListN.{length, get_or, drop, drop_of_length-le, get_or-eq_default}
 use borrow.Author.Tests.{eqb-true, eq-eqb, ne_eqb, ltb-true, ltb-false, lt-ltb, le-ltb}
+use Rattle.slots.proofs.Either.{less_or}
 use Rattle.tokens.specs.declared.Token.{Token}
-use Rattle.tokens.specs.declared.Token.TheVariants.{Invalid}
-use Rattle.tokens.specs.Tokens.{token, tokens, word}
+use Rattle.tokens.specs.Tokens.{token, word}
 use Rattle.tokens.proofs.Tests.{below, under}
-use Rattle.grammar.specs.Words.{class, code, Keyword, SComma, SDot, KFalse, KThread, KAsync}
+use Rattle.grammar.specs.Words.{class, code, SComma, SDot}
 use Rattle.rows.specs.Rows.{read}
 use Rattle.written.specs.Written.{Piece, sign, payload, by_mark, flagged, where_some, child, children, form, forms, look, infix_signs, piece, empty_slot}
-use Rattle.writer.specs.Codes.{low, sign_word, decoded, spelled, shape, word_for, behind}
+use Rattle.writer.specs.Codes.{low, coded, encoded, sign_word, decoded, spelled, shape, word_for, behind}
 use Rattle.writer.specs.Walk.{Moved, Done, some_of, filled, text, into, along, onward, does, done}
 use Rattle.writer.specs.declared.pieces.Act.TheVariants as act
 use Rattle.writer.proofs.Shapes.{few_pieces}
@@ -38,33 +37,15 @@ map_at f g (suc n) e k h =
 abbrev pub byte : ℕ → ℕ → ℕ
 byte x j = x / (2 ^ (8 * j)) % 256
 
--- the number of a piece, and of a form
-unfoldable pub coded : Piece → ℕ
-coded (sign w) = cond (ltb w (Keyword * 256)) (w - 1984) (w - 2176)
-coded (payload w) = w / 256
-coded (by_mark table) = cond (eqb (length table) 23) 2 (cond (eqb (length table) 4) 8 (cond (eqb (get_or table 0 0) KFalse) 1 9))
-coded (flagged f w) = cond (eqb w KThread) 10 (cond (eqb w KAsync) 11 12)
-coded (where_some i w) = cond (eqb i 0) 13 (cond (eqb i 2) 14 15)
-coded (child i) = 16 + i
-coded (children i w) = cond (eqb w SComma) (20 + i) (24 + i)
-
-unfoldable pub encoded : List Piece → ℕ
-encoded [] = 0
-encoded (q ∷ qs) = coded q + 256 * encoded qs
-
--- the table of the forms
-unfoldable pub table : List ℕ
-table = map (λ k. encoded (shape (46 - k))) (range 47)
-
 right : map (λ k. map (λ j. drop j (shape k)) (range 8)) (range 47)
-    ≡ map (λ k. map (λ j. spelled (byte (get_or table k 0) j) (drop (j + 1) (shape k))) (range 8)) (range 47)
-unfolding table encoded coded shape form forms look spelled decoded low sign_word token class code infix_signs
+    ≡ map (λ k. map (λ j. spelled (byte (encoded (shape k)) j) (drop (j + 1) (shape k))) (range 8)) (range 47)
+unfolding encoded coded shape form forms look spelled decoded low sign_word token class code infix_signs
 right = refl
 
-pub spelled_at : (k j : ℕ) → k < 47 → j < 8 → drop j (shape k) ≡ spelled (byte (get_or table k 0) j) (drop (j + 1) (shape k))
+spelled_at : (k j : ℕ) → k < 47 → j < 8 → drop j (shape k) ≡ spelled (byte (encoded (shape k)) j) (drop (j + 1) (shape k))
 spelled_at k j hk hj =
-    map_at (λ j. drop j (shape k)) (λ j. spelled (byte (get_or table k 0) j) (drop (j + 1) (shape k))) 8
-    (map_at (λ k. map (λ j. drop j (shape k)) (range 8)) (λ k. map (λ j. spelled (byte (get_or table k 0) j) (drop (j + 1) (shape k))) (range 8)) 47 right k hk)
+    map_at (λ j. drop j (shape k)) (λ j. spelled (byte (encoded (shape k)) j) (drop (j + 1) (shape k))) 8
+    (map_at (λ k. map (λ j. drop j (shape k)) (range 8)) (λ k. map (λ j. spelled (byte (encoded (shape k)) j) (drop (j + 1) (shape k))) (range 8)) 47 right k hk)
     j hj
 
 pub no_shape : (k : ℕ) → 46 < k → shape k ≡ []
@@ -80,6 +61,11 @@ gap_shape k l h =
     let e : 20 + (k - 20) ≡ k = omega arith in
     let z : shape (20 + (k - 20)) ≡ [] = map_at (λ i. shape (20 + i)) (λ i. []) 12 gaps (k - 20) (omega arith) in
     rw e at z
+
+-- no kind
+pub no_form : (k : ℕ) → 20 ≤ k → (32 ≤ k → 47 ≤ k) → 0 ≡ encoded (shape k)
+unfolding encoded
+no_form k l m = rw (⊎_elim (λ h. gap_shape k l h) (λ h. no_shape k (m h)) (less_or k 32))
 
 pub short : (k : ℕ) → length (shape k) ≤ 8
 short k = go (ltb k 47) refl
@@ -101,6 +87,11 @@ past_end k j e = drop_of_length-le (shape k) {i = j} (rw e (omega arith))
 
 pub past_eight : (k j : ℕ) → 8 ≤ j → drop j (shape k) ≡ []
 past_eight k j h = drop_of_length-le (shape k) {i = j} (let x = short k in omega arith)
+
+-- the pieces of a kind by the bytes of its form
+pub form_spells : (k j : ℕ) → j < 8 → drop j (shape k) ≡ spelled (byte (encoded (shape k)) j) (drop (j + 1) (shape k))
+unfolding encoded
+form_spells k j h = ⊎_elim (λ l. spelled_at k j l h) (λ l. let e = no_shape k l in rw (past_end k j e, past_end k (j + 1) e, e, zero-div (2 ^ (8 * j)), spelled_none)) (less_or k 47)
 
 -- the search for a slot's piece
 behind_none : (k : ℕ) → behind [] k ≡ 0
@@ -248,19 +239,6 @@ after_last pool r j b qs rest d z =
 pub slot_done : (pool : List ℕ) (r b k : ℕ) → 16 ≤ b → b < 64 → k ≡ word_for (decoded b) → done (act.Slot k) ≡ does pool r (decoded b)
 unfolding does
 slot_done pool r b k l h e = rw (e, ne_eqb (word_for (decoded b)) 0 (λ z. omega (arith, slot_word b l h)))
-
--- the words of the infix operators
-infix_same : map (λ x. word (token x)) infix_signs ≡ infix_signs
-unfolding token class code infix_signs
-infix_same = refl
-
-pub infix_right : (k : ℕ) → word (token (get_or infix_signs k 0)) ≡ get_or infix_signs k 0
-unfolding token class code
-infix_right k = sym (get_or-map (λ x. word (token x)) infix_signs k 0) ∙ ap (λ l. get_or l k 0) infix_same
-
-pub no_infix : (k : ℕ) → 23 ≤ k → get_or infix_signs k 0 ≡ 0
-unfolding infix_signs
-no_infix k h = get_or-eq_default infix_signs 0 h
 
 -- a list has nothing behind its end
 pub past : (xs : List ℕ) (k : ℕ) → length xs ≤ k → 0 ≡ get_or xs k 0

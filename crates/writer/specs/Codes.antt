@@ -1,6 +1,6 @@
 -- The pieces of a form by their numbers.
-use Rattle.std.specs.Prelude.{ℕ, zero, suc, ◌+◌, ◌*◌, ◌-◌, ◌/◌, ◌%◌, Bool, true, false, cond, List, [], ◌∷◌, eqb, ltb, get_or}
-use Rattle.grammar.specs.Words.{Operator, Keyword, Integer, Str, Float, Char, Identifier, SComma, SEq, SDot, KElse, KFinally, KThread, KAsync}
+use Rattle.std.specs.Prelude.{ℕ, suc, ◌+◌, ◌-◌, ◌*◌, ◌/◌, ◌%◌, cond, List, [], ◌∷◌, eqb, ltb, get_or, length}
+use Rattle.grammar.specs.Words.{Keyword, Integer, Str, Float, Char, Identifier, SComma, SEq, SDot, KFalse, KElse, KFinally, KThread, KAsync}
 use Rattle.grammar.specs.Tree.{Thread, Async}
 use Rattle.tokens.specs.Tokens.{token, word}
 use Rattle.written.specs.Written.{Piece, sign, payload, by_mark, flagged, where_some, child, children, form, bool_signs, infix_signs, prefix_signs, suffix_signs}
@@ -42,6 +42,21 @@ decoded b =
 -- The piece with a number before others; none with the number 0.
 unfoldable pub spelled : ℕ → List Piece → List Piece
 spelled b qs = cond (eqb b 0) [] (decoded b ∷ qs)
+
+-- The number of a piece.
+unfoldable pub coded : Piece → ℕ
+coded (sign w) = cond (ltb w (Keyword * 256)) (w - 1984) (w - 2176)
+coded (payload w) = w / 256
+coded (by_mark table) = cond (eqb (length table) 23) 2 (cond (eqb (length table) 4) 8 (cond (eqb (get_or table 0 0) KFalse) 1 9))
+coded (flagged f w) = cond (eqb w KThread) 10 (cond (eqb w KAsync) 11 12)
+coded (where_some i w) = cond (eqb i 0) 13 (cond (eqb i 2) 14 15)
+coded (child i) = 16 + i
+coded (children i w) = cond (eqb w SComma) (20 + i) (24 + i)
+
+-- A form as a number: a byte for each piece, the first lowest.
+unfoldable pub encoded : List Piece → ℕ
+encoded [] = 0
+encoded (q ∷ qs) = coded q + 256 * encoded qs
 
 -- The pieces of a kind, and for 0 those of a root block, which has no braces.
 unfoldable pub shape : ℕ → List Piece

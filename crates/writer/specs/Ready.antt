@@ -1,5 +1,5 @@
 -- What the walk through a tree needs, and what it leaves.
-use Rattle.std.specs.Prelude.{ℕ, ◌+◌, ◌*◌, ◌≤◌, ◌<◌, ◌≡◌, true, List, length, get_or}
+use Rattle.std.specs.Prelude.{ℕ, ◌≤◌, ◌≡◌, true, List, length, get_or}
 use Rattle.grammar.specs.Tree.{Tree, size}
 use Rattle.grammar.specs.Script.{word_of}
 use Rattle.slots.specs.Slots.{any-root, fits}
@@ -20,7 +20,6 @@ pub record Ready (pool : List ℕ) (root : ℕ) (owners links : List ℕ) : Type
   pub last : word_of pool root 7 ≡ 0
   pub small : size tree ≤ count pool
   pub told : (t : ℕ) → In pool t → Told pool root t (get_or owners t 0) (get_or links t 0)
-  pub wide : (count pool < length owners) × (count pool < length links)
 
 -- The count of the tokens of the tree, and the slices with them in front.
 pub record Walked (pool : List ℕ) (root n : ℕ) (ws ps ws' ps' : List ℕ) : Type 0 where

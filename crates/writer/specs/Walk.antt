@@ -4,7 +4,7 @@ use Rattle.grammar.specs.Words.{EOF, SComma, SDot}
 use Rattle.rows.specs.Rows.{read}
 use Rattle.tokens.specs.Tokens.{word}
 use Rattle.written.specs.Written.{Token, Piece, piece}
-use Rattle.writer.specs.Codes.{decoded, shape, word_for, behind}
+use Rattle.writer.specs.Codes.{shape, word_for, behind}
 use Rattle.writer.specs.declared.pieces.Act.{Act}
 use Rattle.writer.specs.declared.pieces.Act.TheVariants as act
 use Rattle.writer.specs.declared.moves.Move.{Move}

@@ -1,27 +1,23 @@
 -- What the writer answers, and what it leaves in the two slices that it is lent.
-use Rattle.std.specs.Prelude.{ℕ, zero, suc, ◌+◌, ◌≤◌, ◌<◌, ◌≡◌, true, cond, ◌&&◌, List, [], ◌∷◌, leb, length, replicate}
+use Rattle.std.specs.Prelude.{ℕ, zero, suc, ◌+◌, ◌≤◌, ◌≡◌, true, cond, ◌&&◌, List, [], ◌∷◌, leb, length, replicate, Result, Ok, Err}
 use Rattle.std.proofs.lemmas.List.Edits.{sets}
 use Rattle.grammar.specs.Tree.{Tree}
+use Rattle.refusals.specs.Refusal.{Numbered, refusal, counted}
 use Rattle.slots.specs.Slots.{any-root, fits}
-use Rattle.trees.specs.declared.Checked.{Checked}
-use Rattle.trees.specs.declared.Checked.TheVariants as checked
-use Rattle.trees.specs.Pool.{In, Holds}
+use Rattle.trees.specs.Pool.{Holds}
 use Rattle.trees.specs.Verdict.{Verdict}
 use Rattle.written.specs.Written.{Token, written}
 use Rattle.written.specs.Written as form
 use Rattle.writer.specs.Walk.{move}
 use Rattle.writer.specs.declared.walk.At.{At}
-use Rattle.writer.specs.declared.Wrote.{Wrote}
-use Rattle.writer.specs.declared.Wrote.TheVariants as answer
 
 -- The refusal of an output that is too short.
 abbrev pub TooShort : ℕ
 TooShort = 32
 
 -- The number and the values of an answer: 0 and the count of tokens, or a refusal's number and place; and zeros.
-abbrev pub numbers : Wrote → List ℕ
-numbers (answer.Tokens count) = 0 ∷ count ∷ 0 ∷ 0 ∷ []
-numbers (answer.Refused number place) = number ∷ place ∷ 0 ∷ 0 ∷ []
+abbrev pub numbers : Result ℕ Numbered → List ℕ
+numbers r = counted r
 
 -- A slice of so many words with these in front, as far as it goes, and zeros behind.
 unfoldable pub front : ℕ → List ℕ → List ℕ
@@ -30,19 +26,19 @@ front (suc n) [] = 0 ∷ front n []
 front (suc n) (w ∷ ws) = w ∷ front n ws
 
 -- The answer for a text, where the slices have so many words.
-unfoldable pub answered : List Token → (words places : ℕ) → Wrote
-answered ts w p = cond (leb (length ts) w && leb (length ts) p) (answer.Tokens (length ts)) (answer.Refused TooShort 0)
+unfoldable pub answered : List Token → (words places : ℕ) → Result ℕ Numbered
+answered ts w p = cond (leb (length ts) w && leb (length ts) p) (Ok (length ts)) (Err (refusal TooShort 0))
 
 -- What is left in a slice: the words in front, or zeros after a refusal.
-abbrev pub left : Wrote → (length : ℕ) → List ℕ → List ℕ
-left (answer.Tokens count) n ws = front n ws
-left (answer.Refused number place) n ws = replicate n 0
+abbrev pub left : Result ℕ Numbered → (length : ℕ) → List ℕ → List ℕ
+left (Ok count) n ws = front n ws
+left (Err e) n ws = replicate n 0
 
 -- The promise of the writer for a pool and a root, where the slices have `w` and `p` words: its answer r, and the slices as they are then.
-pub data Writes (pool : List ℕ) (root w p : ℕ) (r : Wrote) (ws ps : List ℕ) : Type 0 where
-  no_tree : (number place : ℕ) → Verdict pool root (checked.Refused number place) → r ≡ answer.Refused number place → ws ≡ replicate w 0 → ps ≡ replicate p 0
+pub data Writes (pool : List ℕ) (root w p : ℕ) (r : Result ℕ Numbered) (ws ps : List ℕ) : Type 0 where
+  no_tree : (number place : ℕ) → Verdict pool root (Err (refusal number place)) → r ≡ Err (refusal number place) → ws ≡ replicate w 0 → ps ≡ replicate p 0
       → Writes pool root w p r ws ps
-  a_text : (t : Tree) → Verdict pool root checked.Tree → Holds pool root t → fits any-root t ≡ true → r ≡ answered (written t) w p
+  a_text : (t : Tree) → Verdict pool root (Ok tt) → Holds pool root t → fits any-root t ≡ true → r ≡ answered (written t) w p
       → ws ≡ left r w (form.words (written t)) → ps ≡ left r p (form.places (written t)) → Writes pool root w p r ws ps
 
 -- A step with its token put behind the others.

@@ -1,8 +1,7 @@
 // The forms of the kinds as numbers, and what each of their pieces gives.
-ghost use Rattle.std.specs.Prelude.{◌≡◌, ℕ, ◌+◌, ◌*◌, ◌/◌, ◌%◌, ◌^◌, ◌<◌, drop, get_or};
-ghost use Rattle.tokens.specs.Tokens.{token, word};
-ghost use Rattle.written.specs.Written.{infix_signs};
-ghost use Rattle.writer.specs.Codes.{spelled, decoded, sign_word, shape, word_for, behind};
+ghost use Rattle.std.specs.Prelude.{◌≡◌, ◌+◌, drop};
+ghost use Rattle.tokens.specs.Tokens.{token};
+ghost use Rattle.writer.specs.Codes.{encoded, spelled, decoded, sign_word, shape, word_for, behind};
 
 use tokens::Token;
 
@@ -13,8 +12,9 @@ const PIECES: usize = 8;
 // prefix and a suffix, 3 to 7 the payload of that class, 10 to 15 a sign that is not always there, 16 and above a slot, 64 and above an operator's
 // code, 128 and above a keyword's. A line for each kind, and so longer than other functions; not a `const` array, which would be built anew at each
 // use.
+#[tactic(auto, unfolding(crate::specs::Codes::coded, crate::specs::Codes::encoded, crate::specs::Codes::shape, written::specs::Written::form, written::specs::Written::forms, written::specs::Written::look, written::specs::Written::infix_signs))]
 fn form_of(kind: usize) -> u64
-    ensures { (j : ℕ) → j < 8 → drop j (shape kind) ≡ spelled (result / 2 ^ (8 * j) % 256) (drop (j + 1) (shape kind)) }
+    ensures { result ≡ encoded (shape kind) }
 {
     match kind {
         0 => 0x10, // the statements of a script
@@ -57,6 +57,7 @@ fn form_of(kind: usize) -> u64
 }
 
 // The number of a kind's piece; 0 behind the last.
+#[tactic(auto, using(crate::proofs::Spelling::past_eight, crate::proofs::Spelling::spelled_none, crate::proofs::Spelling::form_spells))]
 pub fn piece_at(kind: usize, j: usize) -> u8
     ensures { drop j (shape kind) ≡ spelled result (drop (j + 1) (shape kind)) }
 {
@@ -66,25 +67,24 @@ pub fn piece_at(kind: usize, j: usize) -> u8
     ((form_of(kind) >> (8 * j)) % 256) as u8
 }
 
-// The word of a row that a piece is about, where its number is a slot's; 0 where it is none.
+// The word of a row that a piece is about, where its number is a slot's; 0, which is no slot's word, where it is none. No `Option`: one caller compares
+// it with a word, and the other has a slot's number.
+#[tactic(auto, using(crate::proofs::Spelling::low_word, crate::proofs::Spelling::slot_word, crate::proofs::Spelling::sign_no_word))]
 pub fn word_for(b: u8) -> usize
     ensures { result ≡ word_for (decoded b) }
 {
-    if b < 16 {
-        return 0;
+    match b {
+        16..64 => rows::CHILD + (b % 4) as usize,
+        _ => 0,
     }
-    if b < 64 {
-        return 3 + (b % 4) as usize;
-    }
-    0
 }
 
 // Which piece stands behind that for a word.
+#[tactic(auto, using(crate::proofs::Spelling::search_ends, crate::proofs::Spelling::search_finds, crate::proofs::Spelling::search_on, crate::proofs::Spelling::search_over))]
 pub fn behind(kind: usize, k: usize) -> usize
     ensures { result ≡ behind (shape kind) k }
 {
-    let mut j = 0;
-    while j < PIECES {
+    for j in 0..PIECES {
         let b = piece_at(kind, j);
         if b == 0 {
             return j;
@@ -92,57 +92,18 @@ pub fn behind(kind: usize, k: usize) -> usize
         if word_for(b) == k {
             return j + 1;
         }
-        j += 1;
     }
     PIECES
 }
 
 // The sign that a number of 64 or above stands for.
+#[tactic(auto, unfolding(crate::specs::Codes::sign_word))]
 pub fn sign(b: u8) -> Token
     ensures { result ≡ token (sign_word b) }
 {
     if b < 128 {
-        tokens::token_of(1984 + b as u16)
+        Token::from(1984 + b as u16)
     } else {
-        tokens::token_of(2176 + b as u16)
+        Token::from(2176 + b as u16)
     }
-}
-
-// The word of an infix operator by its mark, likewise.
-fn infix_word(mark: usize) -> u16
-    ensures { result ≡ get_or infix_signs mark 0 }
-{
-    match mark {
-        0 => 0x801,
-        1 => 0x802,
-        2 => 0x803,
-        3 => 0x804,
-        4 => 0x80d,
-        5 => 0x814,
-        6 => 0x815,
-        7 => 0x80f,
-        8 => 0x810,
-        9 => 0x811,
-        10 => 0x80a,
-        11 => 0x808,
-        12 => 0x809,
-        13 => 0x807,
-        14 => 0x81a,
-        15 => 0x819,
-        16 => 0x81b,
-        17 => 0x81c,
-        18 => 0x81f,
-        19 => 0x820,
-        20 => 0x816,
-        21 => 0x817,
-        22 => 0x821,
-        _ => 0,
-    }
-}
-
-// The sign of an infix operator by its mark.
-pub fn infix_sign(mark: usize) -> Token
-    ensures { word result ≡ get_or infix_signs mark 0 }
-{
-    tokens::token_of(infix_word(mark))
 }

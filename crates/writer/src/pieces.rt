@@ -1,23 +1,15 @@
 // What a piece of a row's form gives.
-ghost use Rattle.std.specs.Prelude.{◌≡◌, ◌%◌, ◌≤◌, ◌<◌, cond, [], ◌∷◌, eqb, get_or};
+ghost use Rattle.std.specs.Prelude.{◌≡◌, ◌≤◌, ◌<◌, cond, [], ◌∷◌, eqb, get_or};
 ghost use Rattle.tokens.specs.Tokens.{word};
-ghost use Rattle.written.specs.Written.{bool_signs, prefix_signs, suffix_signs};
+ghost use Rattle.written.specs.Written.{bool_signs, infix_signs, prefix_signs, suffix_signs};
 ghost use Rattle.writer.specs.Codes.{decoded};
 ghost use Rattle.writer.specs.Walk.{does, done};
 
 use crate::forms;
 use tokens::{Keyword, Symbol, Token};
 
-// The word of a row that has its mark, its place, and its first child.
-const MARK: usize = 1;
-
-const PLACE: usize = 2;
-
-const CHILD: usize = 3;
-
 // What a piece does: a token is written with a place, nothing is written, or a word of the row leads to a slot.
-#[derive(Drop)]
-#[derive(Clone, Copy)]
+#[derive(Clone, Copy, Debug, PartialEq, Eq)]
 pub enum Act {
     Put(Token, u32),
     Skip,
@@ -59,18 +51,54 @@ fn prefix_sign(mark: usize) -> Token
     }
 }
 
+// The sign of an infix operator by its mark.
+#[tactic(auto, unfolding(written::specs::Written::infix_signs))]
+fn infix_sign(mark: usize) -> Token
+    ensures { word result ≡ get_or infix_signs mark 0 }
+{
+    Token::Operator(match mark {
+        0 => Symbol::SPlus,
+        1 => Symbol::SMinus,
+        2 => Symbol::SMul,
+        3 => Symbol::SDiv,
+        4 => Symbol::SMod,
+        5 => Symbol::SAnd,
+        6 => Symbol::SOr,
+        7 => Symbol::SEq,
+        8 => Symbol::SEeq,
+        9 => Symbol::SNe,
+        10 => Symbol::SGte,
+        11 => Symbol::SGt,
+        12 => Symbol::SLte,
+        13 => Symbol::SLt,
+        14 => Symbol::SLOr,
+        15 => Symbol::SLAnd,
+        16 => Symbol::SPlusEq,
+        17 => Symbol::SMinusEq,
+        18 => Symbol::SMulEq,
+        19 => Symbol::SDivEq,
+        20 => Symbol::SAndEq,
+        21 => Symbol::SOrEq,
+        22 => Symbol::SModEq,
+        _ => return Token::Invalid,
+    })
+}
+
 // A piece that is there in each row of its kind: the payload, or the sign for the mark.
 fn always(pool: &[u32], r: usize, b: u8) -> Act
     requires { (0 < b) × (b < 10) }
     ensures { done result ≡ does pool.now r (decoded b) }
 {
-    let mark = (rows::word(pool, r, MARK) % 256) as usize;
+    let mark = (rows::word(pool, r, rows::MARK) % 256) as usize;
     match b {
         1 => Act::Put(bool_sign(mark), 0),
-        2 => Act::Put(forms::infix_sign(mark), 0),
+        2 => Act::Put(infix_sign(mark), 0),
         8 => Act::Put(prefix_sign(mark), 0),
         9 => Act::Put(suffix_sign(mark), 0),
-        _ => Act::Put(tokens::token_of(b as u16 * 256), rows::word(pool, r, PLACE)),
+        _ => Act::Put(
+            Token::from(b as u16 * 256),
+            rows::word(pool, r, rows::PLACE),
+        ),
     }
 }
 
@@ -86,36 +114,36 @@ fn sometimes(pool: &[u32], r: usize, b: u8) -> Act
     requires { (10 ≤ b) × (b < 16) }
     ensures { done result ≡ does pool.now r (decoded b) }
 {
-    let mark = rows::word(pool, r, MARK);
+    let mark = rows::word(pool, r, rows::MARK);
     match b {
         10 => where_some(mark % 2, Token::Keyword(Keyword::KThread)),
         11 => where_some(mark / 2 % 2, Token::Keyword(Keyword::KAsync)),
         12 => where_some(mark % 2, Token::Operator(Symbol::SDot)),
-        13 => where_some(rows::word(pool, r, CHILD), Token::Operator(Symbol::SEq)),
+        13 => where_some(
+            rows::word(pool, r, rows::CHILD),
+            Token::Operator(Symbol::SEq),
+        ),
         14 => where_some(
-            rows::word(pool, r, CHILD + 2),
+            rows::word(pool, r, rows::CHILD + 2),
             Token::Keyword(Keyword::KElse),
         ),
         _ => where_some(
-            rows::word(pool, r, CHILD + 3),
+            rows::word(pool, r, rows::CHILD + 3),
             Token::Keyword(Keyword::KFinally),
         ),
     }
 }
 
 // What the piece with a number does in a row.
+#[tactic(auto, using(crate::proofs::Spelling::sign_done, crate::proofs::Spelling::slot_done))]
 pub fn piece(pool: &[u32], r: usize, b: u8) -> Act
     requires { 0 < b }
     ensures { done result ≡ does pool.now r (decoded b) }
 {
-    if 64 <= b {
-        return Act::Put(forms::sign(b), 0);
+    match b {
+        0..10 => always(pool, r, b),
+        10..16 => sometimes(pool, r, b),
+        16..64 => Act::Slot(forms::word_for(b)),
+        64.. => Act::Put(forms::sign(b), 0),
     }
-    if 16 <= b {
-        return Act::Slot(forms::word_for(b));
-    }
-    if 10 <= b {
-        return sometimes(pool, r, b);
-    }
-    always(pool, r, b)
 }

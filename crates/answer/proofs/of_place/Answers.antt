@@ -5,8 +5,8 @@ use Rattle.answer.proofs.of_place.Goals as goal
 
 pub returns-then-tokens-start : goal.returns-then-tokens-start
 unfolding need
-returns-then-tokens-start c = rw (le-ltb _ _ c.if-tokens-start.true)
+returns-then-tokens-start c = rw (le-ltb _ _ c.if-tokens-start.true, c.new.ensures)
 
-pub returns-else-tokens-start : goal.returns-else-tokens-start
+pub returns : goal.returns
 unfolding need
-returns-else-tokens-start c = rw (lt-ltb _ _ c.if-tokens-start.false)
+returns c = rw (lt-ltb _ _ c.if-tokens-start.false)

@@ -2,7 +2,11 @@
 use native.Mathlib.Omega.{arith}
 use lib.Seq.{length-take-le}
 use Rattle.trees.proofs.Words.{whole_front}
-use Rattle.exports.proofs.Fours.{checks_whole}
+use mathlib.Core.Path.{ap, ◌∙◌}
+use mathlib.Core.List.{List}
+use Prim.Native.Nat.{ℕ}
+use Rattle.four.specs.Answers.{over}
+use Rattle.exports.proofs.Fours.{checks_whole, same_words}
 use Rattle.exports.proofs.+shigthapul_check.Goals as goal
 
 pub shigthapul_check-requires : goal.shigthapul_check-requires
@@ -15,4 +19,4 @@ pub returns-then-pool-end : goal.returns-then-pool-end
 returns-then-pool-end t c = rw (whole_front c.args.pool.now (omega (arith, c.if-pool-end.true, c.end.ensures))) at c.shigthapul_check_small.ensures
 
 pub returns : goal.returns
-returns t c = record { answer = _; verdict = c.check_large-checked.ensures; four = c.put_checked.ensures }
+returns t c = record { answer = _; verdict = c.check_large-checked.ensures; four = c.put_checked.ensures ∙ ap (λ (ws : List ℕ). over ws c.args.answer.now) (same_words _) }

@@ -1,16 +1,10 @@
--- `lines::digits_before` meets its contract: each turn puts the last digit of what is left before those that are there.
+-- `digits_before` meets its contract: the library writes the same digits, of which there are twenty at the most.
 use Rattle.std.proofs.Common.{arith}
-use Rattle.lines.proofs.Buffers.{some_room, turned, ended}
+use Rattle.lines.proofs.Decimal.{is_decimal, twenty}
 use Rattle.lines.proofs.digits_before.Goals as goal
 
-pub overflow_sub-at : goal.overflow_sub-at
-overflow_sub-at c = some_room c.args.n c.args.buf.now c.args.end (omega arith) (omega arith) (omega arith) c.loop-left.buf c.loop-left.left c.loop-left.at c.loop-left.invariant
-
-pub loop-left-preserved : goal.loop-left-preserved
-loop-left-preserved c = turned c.args.n c.args.buf.now c.args.end (omega arith) (omega arith) (omega arith) c.loop-left.buf c.loop-left.left c.loop-left.at c.loop-left.invariant (omega arith)
-
-pub overflow_sub-at-2 : goal.overflow_sub-at-2
-overflow_sub-at-2 c = some_room c.args.n c.args.buf.now c.args.end (omega arith) (omega arith) (omega arith) c.loop-left.buf c.loop-left.left c.loop-left.at c.loop-left.invariant
+pub write_digits-requires : goal.write_digits-requires
+write_digits-requires c = (rw (is_decimal c.args.n (omega arith)) (omega (arith, twenty c.args.n (omega arith), c.requires.0)), c.requires.1)
 
 pub returns : goal.returns
-returns c = ended c.args.n c.args.buf.now c.args.end (omega arith) (omega arith) (omega arith) c.loop-left.buf c.loop-left.left c.loop-left.at c.loop-left.invariant (omega arith)
+returns c = let e = is_decimal c.args.n (omega arith) in rw (← e) (c.write_digits.ensures.start, c.write_digits.ensures.written)

@@ -1,5 +1,5 @@
 -- `outline::line` meets its contract: the buffer is long enough, so the whole line is in front.
-use Rattle.std.proofs.Common.{rules, arith, sym, ◌∙◌, ap}
+use Rattle.std.proofs.Common.{arith, sym, ◌∙◌}
 use Rattle.lines.proofs.Texts.{written_whole, row_at}
 use Rattle.outline.proofs.line.Goals as goal
 
@@ -11,4 +11,4 @@ returns-then-i-eq0 c =
 pub returns-else-i-eq0 : goal.returns-else-i-eq0
 returns-else-i-eq0 c =
     let w = written_whole c.row_line.ensures.written (omega (arith, c.row_line.ensures.short, c.requires)) in
-    (omega (arith, w.0, c.row_line.ensures.short), w.1 ∙ sym (row_at c.args.answer c.args.pool.now c.args.i (omega arith) c.requires.0))
+    (omega (arith, w.0, c.row_line.ensures.short), w.1 ∙ sym (row_at c.args.answer.now c.args.pool.now c.args.i (omega arith) c.requires.0))

@@ -1,24 +1,14 @@
 -- `outline::read` meets its contract: the script is that of the file's words, and a refusal is the file's.
-use Rattle.std.proofs.Common.{arith, sym, length, length-take-le}
-use Rattle.outline.proofs.Files.{fits, script, refusal}
+use Rattle.std.proofs.Common.{length}
+use Rattle.std.proofs.lemmas.Result.{err_from_is_err_and}
+use Rattle.outline.proofs.Files.{script, refusal_of}
 use Rattle.outline.proofs.read.Goals as goal
 
-pub slice_bounds-whole_script-end : goal.slice_bounds-whole_script-end
-slice_bounds-whole_script-end c =
-    omega (arith, fits c.args.bytes.now (length c.args.tokens.now) c.read-fields.ensures.answer c.in-Count.is, c.read-fields.auto.words)
+pub returns-in_err-n : goal.returns-in_err-n
+returns-in_err-n c =
+    let p = err_from_is_err_and c.from_residual.result c.from_residual.ensures.1 in
+    rw (p.1, p.2) (refusal_of c.args.bytes.now (length c.args.tokens.now) (length c.args.pool.now) c.args.pool.now c.read.ensures.answer c.in_err-n.was)
 
-pub slice_bounds-whole_script-end-in-Count : goal.slice_bounds-whole_script-end-in-Count
-slice_bounds-whole_script-end-in-Count c =
-    sym
-    (length-take-le
-    c.in-Count.n
-    c.read-fields.new.words
-    (omega (arith, fits c.args.bytes.now (length c.args.tokens.now) c.read-fields.ensures.answer c.in-Count.is, c.read-fields.auto.words)))
-
-pub returns-in-Count : goal.returns-in-Count
-returns-in-Count c =
-    script c.args.bytes.now c.read-fields.new.words (length c.args.tokens.now) (length c.args.pool.now) c.in-Count.n c.read-fields.ensures.answer c.in-Count.is c.read-fields.ensures.buffer c.whole_script.ensures
-
-pub returns-in-Refused : goal.returns-in-Refused
-returns-in-Refused c =
-    refusal c.args.bytes.now (length c.args.tokens.now) (length c.args.pool.now) c.in-Refused.number c.in-Refused.place c.args.pool.now c.read-fields.ensures.answer c.in-Refused.is
+pub returns : goal.returns
+returns c =
+    script c.args.bytes.now c.read.new.words (length c.args.tokens.now) (length c.args.pool.now) c.in_ok-n.n c.read.ensures.answer c.in_ok-n.was c.read.ensures.buffer c.whole_script.ensures

@@ -1,5 +1,5 @@
 -- What the definition of `at_keyword` reads, one reading after another.
-use Rattle.std.proofs.Common.{Bool, List, ap, eqb, false, not, refl, true, ℕ, ◌||◌, ◌∙◌, ◌≡◌}
+use Rattle.std.proofs.Common.{Bool, List, ap, eqb, false, not, refl, true, ℕ, ◌&&◌, ◌||◌, ◌∙◌, ◌≡◌}
 use borrow.Author.Tests.{eqb-true}
 use Rattle.grammar.specs.Words.{SSemiColon, KIf, KWhile, KFor, KConst, KVar, KFunc, KTry, KThrow, KForEach, KAssert, tok, step, next_is}
 use Rattle.grammar.specs.Tree.{Tree, Trees}
@@ -7,6 +7,9 @@ use Rattle.grammar.specs.Parsed.{refused, Reader, match, choose}
 use Rattle.grammar.specs.Expressions.{Rec}
 use Rattle.grammar.specs.Statements.{begun, throw, kept, var, const, if, assert, while, function, for, try, foreach}
 use Rattle.grammar.specs.Rules.{Rules}
+use Rattle.tokens.specs.declared.Keyword.{Keyword as Key}
+use Rattle.tokens.specs.declared.Token.TheVariants as token
+use Rattle.tokens.specs.Tokens.{word}
 use Rattle.reader.specs.Promises.{further}
 use Rattle.reader.proofs.Answers.{need_met, need_failed}
 
@@ -59,6 +62,13 @@ module _ (rules : Rules) (ts : List ℕ) (expr : Rec) (stmt : Reader Trees) (at 
   pub on : {w : ℕ} (reader : Reader Tree) → Begins w reader → tok ts at ≡ w → next_is ts at SSemiColon ≡ false → kept rules ts expr stmt at room ≡ reader at room
   unfolding begun
   on reader b e n = b e ∙ need_met _ _ _ (ap not n)
+
+  -- By its keyword, where none that goes further ends at once.
+  pub goes_on : {k q : Key} (reader : Reader Tree) → Begins (word (token.Keyword q)) reader → tok ts at ≡ word (token.Keyword k) → k ≡ q → further (word (token.Keyword q)) ≡ true
+      → (further (word (token.Keyword k)) && next_is ts at SSemiColon) ≡ false → kept rules ts expr stmt at room ≡ reader at room
+  goes_on reader b e i f n =
+      let m = ap (λ (j : Key). further (word (token.Keyword j))) i ∙ f in
+      on reader b (e ∙ ap (λ (j : Key). word (token.Keyword j)) i) (rw m at n)
 
   -- One that ends at once is refused.
   module _ (semi : next_is ts at SSemiColon ≡ true) where

@@ -3,15 +3,6 @@ use Rattle.reader.specs.Entries.{reads}
 use Rattle.reader.proofs.Lists.{as_list}
 use Rattle.reader.proofs.read.Goals as goal
 
-pub expression-requires : goal.expression-requires
-expression-requires c = c.requires
-
-pub statement-requires : goal.statement-requires
-statement-requires c = c.requires
-
-pub script-requires : goal.script-requires
-script-requires c = c.requires
-
 pub returns-in-Expression : goal.returns-in-Expression
 unfolding reads
 returns-in-Expression c = rw c.in-Expression.is (as_list (rw c.nesting-less.ensures at c.expression.ensures))

@@ -11,7 +11,7 @@ returns-then-count-work c =
     let counted = c.folded_length-count.ensures in
     rw (paired c.args.payload.now counted c.if-count-payload.false, ← counted, le-leb _ _ c.if-count-work.true)
 
-pub returns : goal.returns
-returns c =
+pub returns-else-count-work : goal.returns-else-count-work
+returns-else-count-work c =
     let counted = c.folded_length-count.ensures in
     rw (paired c.args.payload.now counted c.if-count-payload.false, ← counted, lt-leb _ _ c.if-count-work.false)

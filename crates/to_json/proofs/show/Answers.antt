@@ -9,10 +9,10 @@ tell-requires c = omega arith
 pub refuse-requires : goal.refuse-requires
 refuse-requires c = omega arith
 
-pub returns-in-Accepted : goal.returns-in-Accepted
-returns-in-Accepted c =
+pub returns-in-Ok : goal.returns-in-Ok
+returns-in-Ok c =
     let e : length c.args.out.now ≡ 4194305 = omega arith in
-    (omega (arith, c.tell.ensures.0, c.tell.auto.out), shows_script c.read-answer.ensures.answer c.in-Accepted.is c.read-answer.ensures.pool (rw (e) at c.tell.ensures.1))
+    (omega (arith, c.tell.ensures.0, c.tell.auto.out), shows_script c.read.ensures.answer c.in-Ok.is c.read.ensures.pool (rw (e) at c.tell.ensures.1))
 
-pub returns-in-Refused : goal.returns-in-Refused
-returns-in-Refused c = (omega (arith, c.refuse.ensures.0, c.refuse.auto.out), shows_refusal c.read-answer.ensures.answer c.in-Refused.is c.refuse.ensures.1)
+pub returns-in-Err : goal.returns-in-Err
+returns-in-Err c = (omega (arith, c.refuse.ensures.0, c.refuse.auto.out), shows_refusal c.read.ensures.answer c.in-Err.is c.refuse.ensures.1)

@@ -7,13 +7,13 @@ pub bounds-out-n : goal.bounds-out-n
 bounds-out-n c =
     let some : 0 < length c.args.out.now = omega arith in
     let long = as_long c.args.out.now some c.write-told.ensures c.write-told.auto.out in
-    let within = inside c.args.out.now some c.write-told.ensures c.write-told.auto.out c.in-Bytes.is in
+    let within = inside c.args.out.now some c.write-told.ensures c.write-told.auto.out c.in-Ok.is in
     omega arith
 
 pub overflow_add-result : goal.overflow_add-result
 overflow_add-result c =
     let some : 0 < length c.args.out.now = omega arith in
-    let within = inside c.args.out.now some c.write-told.ensures c.write-told.auto.out c.in-Bytes.is in
+    let within = inside c.args.out.now some c.write-told.ensures c.write-told.auto.out c.in-Ok.is in
     search rules
 
 pub refuse-requires : goal.refuse-requires
@@ -22,14 +22,14 @@ refuse-requires c =
     let long = as_long c.args.out.now some c.write-told.ensures c.write-told.auto.out in
     omega arith
 
-pub returns-in-Bytes : goal.returns-in-Bytes
-returns-in-Bytes c =
+pub returns-in-Ok : goal.returns-in-Ok
+returns-in-Ok c =
     let some : 0 < length c.args.out.now = omega arith in
-    let within = inside c.args.out.now some c.write-told.ensures c.write-told.auto.out c.in-Bytes.is in
-    (omega arith, text_line c.args.out.now some c.write-told.ensures c.write-told.auto.out c.in-Bytes.is)
+    let within = inside c.args.out.now some c.write-told.ensures c.write-told.auto.out c.in-Ok.is in
+    (omega arith, text_line c.args.out.now some c.write-told.ensures c.write-told.auto.out c.in-Ok.is)
 
-pub returns-in-Refused : goal.returns-in-Refused
-returns-in-Refused c =
+pub returns-in-Err : goal.returns-in-Err
+returns-in-Err c =
     let some : 0 < length c.args.out.now = omega arith in
     let long = as_long c.args.out.now some c.write-told.ensures c.write-told.auto.out in
-    (omega (arith, c.refuse.ensures.0), refusal_line c.args.out.now some c.write-told.ensures c.write-told.auto.out c.in-Refused.is c.refuse.ensures.1)
+    (omega (arith, c.refuse.ensures.0), refusal_line c.args.out.now some c.write-told.ensures c.write-told.auto.out c.in-Err.is c.refuse.ensures.1)

@@ -1,12 +1,13 @@
 -- `digit` meets its contract: ten and above are letters.
+use Rattle.std.proofs.Common.{arith}
 use borrow.Author.Tests.{lt-ltb, le-ltb}
 use Rattle.json_text.specs.Values.{hex}
 use Rattle.json_values.proofs.escapes.digit.Goals as goal
 
-pub returns-then-d-lt10 : goal.returns-then-d-lt10
+pub returns-in-0-to-9 : goal.returns-in-0-to-9
 unfolding hex
-returns-then-d-lt10 c = rw (lt-ltb _ 10 c.if-d-lt10.true)
+returns-in-0-to-9 c = rw (lt-ltb c.args.d 10 (omega arith))
 
-pub returns : goal.returns
+pub returns-in_default : goal.returns-in_default
 unfolding hex
-returns c = rw (le-ltb _ 10 c.if-d-lt10.false)
+returns-in_default c = rw (le-ltb c.args.d 10 (omega arith))

@@ -1,39 +1,27 @@
 -- `number_of` meets its contract: each turn reads one more byte, and eight bytes give 64 bits.
-use Rattle.std.proofs.Common.{◌≡◌, sym, ap, ◌∙◌, ◌<◌, ◌≤◌, length, take, add-one, arith}
-use lib.Seq.{take_all, take-length}
-use Rattle.fields.specs.Field.{number}
-use Rattle.json_values.proofs.Read.{begun, room, turned}
+use Rattle.std.proofs.Common.{◌<◌, add-one, arith, length-take, get_or-take}
+use Rattle.json_values.proofs.Read.{begun, room, turned, ended}
 use Rattle.json_values.proofs.values.number_of.Goals as goal
-use Rattle.json_values.proofs.values.number_of.Goals.{then-bytes-most, else-bytes-most}
 
-pub loop-i-init : goal.loop-i-init
-loop-i-init c =
-    let bytes = c.args.bytes.now in
-    elim c.if-bytes-most.branch [
-      | then-bytes-most w ↦
-          (let e = w.end-is in
-          let short : length bytes < c.args.most = w.if-bytes-most.true in
-          begun bytes c.args.most c.if-bytes-most.end (omega arith) (omega arith) (rw (e, take-length) (sym (take_all c.args.most bytes (omega arith)))))
-      | else-bytes-most w ↦
-          (let e = w.end-is in
-          let long : c.args.most ≤ length bytes = w.if-bytes-most.false in
-          begun bytes c.args.most c.if-bytes-most.end (omega arith) (omega arith) (rw e))
-    ]
+pub loop-b-init : goal.loop-b-init
+loop-b-init c = begun _ (omega (arith, length-take c.min.result c.args.bytes.now))
 
 pub overflow_mul-n : goal.overflow_mul-n
-overflow_mul-n c = let l = c.loop-i in omega (arith, room _ _ _ l.n l.i l.invariant c.loop-i-test.true)
+overflow_mul-n c = omega (arith, room _ c.loop-b.n c.loop-b.b-index c.loop-b.invariant c.loop-b-test.true)
 
 pub overflow_add-n : goal.overflow_add-n
-overflow_add-n c = let l = c.loop-i in omega (arith, room _ _ _ l.n l.i l.invariant c.loop-i-test.true, c.type_inv.bytes l.i)
+overflow_add-n c =
+    let bytes = c.args.bytes.now in
+    let i = c.loop-b.b-index in
+    let inside : i < c.min.result = omega (arith, length-take c.min.result bytes) in
+    omega (arith, room _ c.loop-b.n i c.loop-b.invariant c.loop-b-test.true, get_or-take c.min.result bytes i 0 inside, c.type_inv.bytes i)
 
-pub loop-i-preserved : goal.loop-i-preserved
-loop-i-preserved c =
-    let l = c.loop-i in
-    rw add-one (turned _ _ _ l.n l.i l.invariant c.loop-i-test.true (omega (arith, c.type_inv.bytes l.i)))
+pub loop-b-preserved : goal.loop-b-preserved
+loop-b-preserved c =
+    let bytes = c.args.bytes.now in
+    let i = c.loop-b.b-index in
+    let inside : i < c.min.result = omega (arith, length-take c.min.result bytes) in
+    rw add-one (turned _ c.loop-b.n i c.loop-b.invariant c.loop-b-test.true (omega (arith, get_or-take c.min.result bytes i 0 inside, c.type_inv.bytes i)))
 
 pub returns : goal.returns
-returns c =
-    let l = c.loop-i in
-    let bytes = c.args.bytes.now in
-    let whole : l.i ≡ c.if-bytes-most.end = omega arith in
-    l.invariant.read ∙ ap (λ k. number 0 (take k bytes)) whole ∙ ap (number 0) l.invariant.same
+returns c = ended c.args.most c.args.bytes.now c.min.ensures c.loop-b.invariant (omega arith)

@@ -14,7 +14,7 @@ abbrev pub decreases-put_row : goal.decreases-put_row
 decreases-put_row l = 3 * l.left
 
 abbrev pub invariant-put_members-loop-r : goal.invariant-put_members-loop-r
-invariant-put_members-loop-r l = Going l.pool l.file l.initial.r l.r l.left l.initial.out l.initial.to l.out l.to
+invariant-put_members-loop-r l = Going l.pool l.fields.file.now l.initial.r l.r l.left l.initial.out l.out
 
 abbrev pub decreases-put_members-loop-r : goal.decreases-put_members-loop-r
 decreases-put_members-loop-r l = to_come l.pool l.r

@@ -11,7 +11,7 @@ pub record Inv (ts pool₀ : List ℕ) (first : ℕ) (d₀ : ℕ) (pool : List �
   pub state : Turning many (dots ts) ts d₀ nil d₀ (length pool₀ / width) first k head pool₀ pool d
 
 abbrev pub invariant-loop-e : goal.invariant-loop-e
-invariant-loop-e l = Inv l.tokens l.initial.pool l.first l.initial.d l.pool l.k l.head l.d
+invariant-loop-e l = Inv l.tokens l.initial.pool l.first l.c l.pool l.all.rows l.all.head l.all.next
 
 abbrev pub decreases-loop-e : goal.decreases-loop-e
-decreases-loop-e l = length l.tokens - l.d
+decreases-loop-e l = length l.tokens - l.all.next

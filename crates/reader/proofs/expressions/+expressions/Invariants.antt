@@ -9,102 +9,102 @@ use Rattle.reader.proofs.Loops.{Turning}
 use Rattle.reader.proofs.expressions.+expressions.Given as goal
 
 abbrev pub decreases-actual : goal.decreases-actual
-decreases-actual l = 16 * (l.less + (length l.tokens.now - l.c)) + 8
+decreases-actual l = 16 * (l.less + (length l.source.now.tokens.now - l.c)) + 8
 
 abbrev pub decreases-around : goal.decreases-around
-decreases-around l = 16 * (l.less + (length l.tokens.now - l.c)) + 1
+decreases-around l = 16 * (l.less + (length l.source.now.tokens.now - l.c)) + 1
 
 abbrev pub decreases-array : goal.decreases-array
-decreases-array l = 16 * (l.less + (length l.tokens.now - l.c)) + 8
+decreases-array l = 16 * (l.less + (length l.source.now.tokens.now - l.c)) + 8
 
 abbrev pub decreases-at_keyword : goal.decreases-at_keyword
-decreases-at_keyword l = 16 * (l.less + (length l.tokens.now - l.c)) + 9
+decreases-at_keyword l = 16 * (l.less + (length l.source.now.tokens.now - l.c)) + 9
 
 abbrev pub decreases-at_symbol : goal.decreases-at_symbol
-decreases-at_symbol l = 16 * (l.less + (length l.tokens.now - l.c)) + 9
+decreases-at_symbol l = 16 * (l.less + (length l.source.now.tokens.now - l.c)) + 9
 
 abbrev pub decreases-behind : goal.decreases-behind
-decreases-behind l = 16 * (l.less + (length l.tokens.now - l.c)) + 4
+decreases-behind l = 16 * (l.less + (length l.source.now.tokens.now - l.c)) + 4
 
 abbrev pub decreases-call : goal.decreases-call
-decreases-call l = 16 * (l.less + (length l.tokens.now - l.c)) + 9
+decreases-call l = 16 * (l.less + (length l.source.now.tokens.now - l.left.next)) + 9
 
 abbrev pub decreases-climb : goal.decreases-climb
-decreases-climb l = 16 * (l.less + (length l.tokens.now - l.c)) + 11
+decreases-climb l = 16 * (l.less + (length l.source.now.tokens.now - l.left.next)) + 11
 
 abbrev pub decreases-enclosed : goal.decreases-enclosed
-decreases-enclosed l = 16 * (l.less + (length l.tokens.now - l.c)) + 7
+decreases-enclosed l = 16 * (l.less + (length l.source.now.tokens.now - l.c)) + 7
 
 abbrev pub decreases-entries : goal.decreases-entries
-decreases-entries l = 16 * (l.less + (length l.tokens.now - l.c)) + 5
+decreases-entries l = 16 * (l.less + (length l.source.now.tokens.now - l.front.next)) + 5
 
 abbrev pub decreases-expression : goal.decreases-expression
-decreases-expression l = 16 * (l.allow + (length l.tokens.now - l.c)) + 0
+decreases-expression l = 16 * (l.allow + (length l.source.now.tokens.now - l.c)) + 0
 
 abbrev pub decreases-hash : goal.decreases-hash
-decreases-hash l = 16 * (l.less + (length l.tokens.now - l.c)) + 8
+decreases-hash l = 16 * (l.less + (length l.source.now.tokens.now - l.c)) + 8
 
 abbrev pub decreases-index : goal.decreases-index
-decreases-index l = 16 * (l.less + (length l.tokens.now - l.c)) + 5
+decreases-index l = 16 * (l.less + (length l.source.now.tokens.now - l.left.next)) + 5
 
 abbrev pub decreases-infix_exp : goal.decreases-infix_exp
-decreases-infix_exp l = 16 * (l.less + (length l.tokens.now - l.c)) + 5
+decreases-infix_exp l = 16 * (l.less + (length l.source.now.tokens.now - l.left.next)) + 5
 
 abbrev pub decreases-item : goal.decreases-item
-decreases-item l = 16 * (l.less + (length l.tokens.now - l.c)) + 3
+decreases-item l = 16 * (l.less + (length l.source.now.tokens.now - l.c)) + 3
 
 abbrev pub decreases-lambda : goal.decreases-lambda
-decreases-lambda l = 16 * (l.less + (length l.tokens.now - l.c)) + 8
+decreases-lambda l = 16 * (l.less + (length l.source.now.tokens.now - l.c)) + 8
 
 abbrev pub decreases-list : goal.decreases-list
-decreases-list l = 16 * (l.less + (length l.tokens.now - l.c)) + 6
+decreases-list l = 16 * (l.less + (length l.source.now.tokens.now - l.c)) + 6
 
 abbrev pub decreases-operation : goal.decreases-operation
-decreases-operation l = 16 * (l.less + (length l.tokens.now - l.c)) + 10
+decreases-operation l = 16 * (l.less + (length l.source.now.tokens.now - l.left.next)) + 10
 
 abbrev pub decreases-pair : goal.decreases-pair
-decreases-pair l = 16 * (l.less + (length l.tokens.now - l.c)) + 2
+decreases-pair l = 16 * (l.less + (length l.source.now.tokens.now - l.c)) + 2
 
 abbrev pub decreases-prefix : goal.decreases-prefix
-decreases-prefix l = 16 * (l.less + (length l.tokens.now - l.c)) + 2
+decreases-prefix l = 16 * (l.less + (length l.source.now.tokens.now - l.c)) + 2
 
 abbrev pub decreases-prefix_part : goal.decreases-prefix_part
-decreases-prefix_part l = 16 * (l.less + (length l.tokens.now - l.c)) + 10
+decreases-prefix_part l = 16 * (l.less + (length l.source.now.tokens.now - l.c)) + 10
 
 abbrev pub decreases-shell : goal.decreases-shell
-decreases-shell l = 16 * (l.less + (length l.tokens.now - l.c)) + 2
+decreases-shell l = 16 * (l.less + (length l.source.now.tokens.now - l.c)) + 2
 
 abbrev pub decreases-started : goal.decreases-started
-decreases-started l = 16 * (l.less + (length l.tokens.now - l.c)) + 1
+decreases-started l = 16 * (l.less + (length l.source.now.tokens.now - l.c)) + 1
 
 abbrev pub decreases-sub_exp : goal.decreases-sub_exp
-decreases-sub_exp l = 16 * (l.less + (length l.tokens.now - l.c)) + 1
+decreases-sub_exp l = 16 * (l.less + (length l.source.now.tokens.now - l.c)) + 1
 
 -- The numbers fit, and from any tree in the first rows the definition's loop has come as far.
-abbrev pub invariant-climb-loop-mode : goal.invariant-climb-loop-mode
-invariant-climb-loop-mode l = record {
+abbrev pub invariant-climb-loop-at : goal.invariant-climb-loop-at
+invariant-climb-loop-at l = record {
   same : length l.pool ≡ length l.initial.pool;
-  fit : width * l.k ≤ length l.pool;
-  on : l.c ≤ l.d;
-  within : l.d < length l.tokens;
-  state : (from : ℕ) (t : Tree) (zs : List ℕ) (left : ℕ) → Stands l.tokens from ((t ▸ nil) ∷ []) l.first l.rows left zs l.initial.pool l.c → l.head ≡ l.first + size t
-      → Turning one (spec.climb (by l.mode) l.tokens (spec.expression (by l.mode) l.tokens l.less) l.order) l.tokens from t l.c left l.first l.k l.h zs l.pool l.d;
+  fit : width * l.tree.rows ≤ length l.pool;
+  on : l.initial.tree.next ≤ l.tree.next;
+  within : l.tree.next < length l.source.tokens.now;
+  state : (from : ℕ) (t : Tree) (zs : List ℕ) (left : ℕ) → Stands l.source.tokens.now from ((t ▸ nil) ∷ []) l.first l.initial.tree.rows left zs l.initial.pool l.initial.tree.next → l.initial.tree.head ≡ l.first + size t
+      → Turning one (spec.climb (by l.source.mode) l.source.tokens.now (spec.expression (by l.source.mode) l.source.tokens.now l.less) l.order) l.source.tokens.now from t l.initial.tree.next left l.first l.tree.rows l.tree.head zs l.pool l.tree.next;
 }
 
-abbrev pub decreases-climb-loop-mode : goal.decreases-climb-loop-mode
-decreases-climb-loop-mode l = length l.tokens - l.d
+abbrev pub decreases-climb-loop-at : goal.decreases-climb-loop-at
+decreases-climb-loop-at l = length l.source.tokens.now - l.tree.next
 
 -- The numbers fit, and from any list in the first rows the definition's loop has come as far.
-abbrev pub invariant-entries-loop-mode : goal.invariant-entries-loop-mode
-invariant-entries-loop-mode l = record {
+abbrev pub invariant-entries-loop-e : goal.invariant-entries-loop-e
+invariant-entries-loop-e l = record {
   same : length l.pool ≡ length l.initial.pool;
-  fit : width * l.k ≤ length l.pool;
-  on : l.c ≤ l.d;
-  within : l.d < length l.tokens;
-  state : (from : ℕ) (us : Trees) (zs : List ℕ) (left : ℕ) → Stands l.tokens from (us ∷ []) l.first l.rows left zs l.initial.pool l.c → l.head ≡ head_ref us l.first
-      → Turning many (spec.entries (by l.mode) l.tokens (spec.expression (by l.mode) l.tokens l.less) (contract.item (by l.mode) l.tokens (spec.expression (by l.mode) l.tokens l.less) 0 l.paired))
-      l.tokens from us l.c left l.first l.k l.h zs l.pool l.d;
+  fit : width * l.all.rows ≤ length l.pool;
+  on : l.initial.all.next ≤ l.all.next;
+  within : l.all.next < length l.source.tokens.now;
+  state : (from : ℕ) (us : Trees) (zs : List ℕ) (left : ℕ) → Stands l.source.tokens.now from (us ∷ []) l.first l.initial.all.rows left zs l.initial.pool l.initial.all.next → l.initial.all.head ≡ head_ref us l.first
+      → Turning many (spec.entries (by l.source.mode) l.source.tokens.now (spec.expression (by l.source.mode) l.source.tokens.now l.less) (contract.item (by l.source.mode) l.source.tokens.now (spec.expression (by l.source.mode) l.source.tokens.now l.less) 0 l.paired))
+      l.source.tokens.now from us l.initial.all.next left l.first l.all.rows l.all.head zs l.pool l.all.next;
 }
 
-abbrev pub decreases-entries-loop-mode : goal.decreases-entries-loop-mode
-decreases-entries-loop-mode l = length l.tokens - l.d
+abbrev pub decreases-entries-loop-e : goal.decreases-entries-loop-e
+decreases-entries-loop-e l = length l.source.tokens.now - l.all.next

@@ -19,4 +19,4 @@ returns-then-next_symbol_is c =
 
 pub returns : goal.returns
 unfolding closed
-returns c = (bounded_refused _ _, λ from bs slots t zs left s e. refuses _ _ _ (need_failed _ _ _ (sym c.next_symbol_is.ensures ∙ c.if-next_symbol_is.false)))
+returns c = (bounded_refused, λ from bs slots t zs left s e. refuses _ _ _ (need_failed _ _ _ (sym c.next_symbol_is.ensures ∙ c.if-next_symbol_is.false)) c.new.ensures)

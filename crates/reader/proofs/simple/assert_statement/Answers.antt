@@ -4,16 +4,14 @@ use Rattle.grammar.specs.Words.{SSemiColon, SComma, Zero, step, next_is}
 use Rattle.grammar.specs.Tree.{Tree, Trees}
 use Rattle.grammar.specs.Tree as tree
 use Rattle.grammar.specs.Parsed.{refused, read, Reader, build, AssertWithoutAction, AssertWithoutComma}
-use Rattle.grammar.specs.Expressions.{Rec, expression}
+use Rattle.grammar.specs.Expressions.{Rec}
 use Rattle.grammar.specs.Statements.{assert}
-use Rattle.grammar.specs.Statements as spec
 use Rattle.grammar.specs.Rules.{Rules}
-use Rattle.modes.specs.Modes.{by}
 use Rattle.reader.specs.Promises.{behind_sign}
 use Rattle.reader.specs.Meets.{of_node}
-use Rattle.reader.proofs.Answers.{taken, by_eq, refuses, need_met, need_failed, sooner, Starts, starts_at, goes, pass_on}
+use Rattle.reader.proofs.Answers.{taken, by_eq, refuses, need_met, need_failed, sooner, Starts, starts_at, goes, pass_on, exit}
 use Rattle.reader.proofs.Bodies.{sign_then}
-use Rattle.reader.proofs.Moves.{fits_same, front_le, on_step, ready_same, ready_step, small, small_in}
+use Rattle.reader.proofs.Moves.{on_step, ready_step}
 use Rattle.reader.proofs.simple.assert_statement.Goals as goal
 
 -- The definition, one reading after another.
@@ -37,36 +35,25 @@ module _ (rules : Rules) (ts : List ℕ) (expr : Rec) (stmt : Reader Trees) (sta
       unfolding second
       ended f = goes second f
 
-pub expression-r-requires : goal.expression-r-requires
-expression-r-requires c = ready_step _ _ c.iterate-s.ensures c.requires
+pub expression-requires : goal.expression-requires
+expression-requires c = ready_step _ _ c.iterate-s.ensures c.requires
 
-pub returns-in_default : goal.returns-in_default
-returns-in_default c = pass_on (first (by c.args.mode) c.args.tokens.now (expression (by c.args.mode) c.args.tokens.now c.args.less) (spec.statement (by c.args.mode) c.args.tokens.now c.args.less) _ _ c.iterate-s.ensures) (sooner (on_step _ _ c.iterate-s.ensures) c.expression-r.ensures) c.in_default.is
+pub returns-in_err-condition : goal.returns-in_err-condition
+returns-in_err-condition c = pass_on (first _ _ _ _ _ _ c.iterate-s.ensures) (sooner (on_step _ _ c.iterate-s.ensures) c.expression.ensures) c.in_err-condition.was (exit c.from_residual.ensures.1)
 
 pub returns-then-next_symbol_is : goal.returns-then-next_symbol_is
 returns-then-next_symbol_is c =
-    let read_1 = taken (sooner (on_step _ _ c.iterate-s.ensures) c.expression-r.ensures) c.in-Tree.is in
-    rw c.iterate-e.ensures (refuses _ _ _ (stops (by c.args.mode) c.args.tokens.now (expression (by c.args.mode) c.args.tokens.now c.args.less) (spec.statement (by c.args.mode) c.args.tokens.now c.args.less) _ _ c.iterate-s.ensures read_1.eq (sym c.next_symbol_is.ensures ∙ c.if-next_symbol_is.true)))
+    let read_1 = taken (sooner (on_step _ _ c.iterate-s.ensures) c.expression.ensures) c.in_ok-condition.was in
+    refuses _ _ _ (stops _ _ _ _ _ _ c.iterate-s.ensures read_1.eq (sym c.next_symbol_is.ensures ∙ c.if-next_symbol_is.true)) (rw c.iterate-e.ensures at c.new.ensures)
 
-pub behind_sign-q-requires : goal.behind_sign-q-requires
-behind_sign-q-requires c =
-    let read_1 = taken (sooner (on_step _ _ c.iterate-s.ensures) c.expression-r.ensures) c.in-Tree.is in
-    (ready_same c.requires c.expression-r.auto.pool read_1.stands.within, front_le read_1.stands.front)
-
-pub returns-in_default-q : goal.returns-in_default-q
-returns-in_default-q c =
-    let read_1 = taken (sooner (on_step _ _ c.iterate-s.ensures) c.expression-r.ensures) c.in-Tree.is in
-    pass_on (second (by c.args.mode) c.args.tokens.now (expression (by c.args.mode) c.args.tokens.now c.args.less) (spec.statement (by c.args.mode) c.args.tokens.now c.args.less) _ _ c.iterate-s.ensures read_1.eq (sym c.next_symbol_is.ensures ∙ c.if-next_symbol_is.false)) (c.behind_sign-q.ensures.1 _ _ _ _ read_1.stands) c.in_default-q.is
-
-pub put_row-requires : goal.put_row-requires
-put_row-requires c =
-    let read_1 = taken (sooner (on_step _ _ c.iterate-s.ensures) c.expression-r.ensures) c.in-Tree.is in
-    let read_2 = taken (c.behind_sign-q.ensures.1 _ _ _ _ read_1.stands) c.in-Tree-q.is in
-    (fits_same _ _ _ c.requires.fits (c.behind_sign-q.auto.pool ∙ c.expression-r.auto.pool), small c.requires, small_in c.requires read_2.stands.within)
+pub returns-in_err-action : goal.returns-in_err-action
+returns-in_err-action c =
+    let read_1 = taken (sooner (on_step _ _ c.iterate-s.ensures) c.expression.ensures) c.in_ok-condition.was in
+    pass_on (second _ _ _ _ _ _ c.iterate-s.ensures read_1.eq (sym c.next_symbol_is.ensures ∙ c.if-next_symbol_is.false)) (c.behind_sign.ensures.1 _ _ _ _ read_1.stands) c.in_err-action.was (exit c.from_residual-in_err-action.ensures.1)
 
 pub returns : goal.returns
 returns c =
-    let read_1 = taken (sooner (on_step _ _ c.iterate-s.ensures) c.expression-r.ensures) c.in-Tree.is in
-    let read_2 = taken (c.behind_sign-q.ensures.1 _ _ _ _ read_1.stands) c.in-Tree-q.is in
-    by_eq (ended (by c.args.mode) c.args.tokens.now (expression (by c.args.mode) c.args.tokens.now c.args.less) (spec.statement (by c.args.mode) c.args.tokens.now c.args.less) _ _ c.iterate-s.ensures read_1.eq (sym c.next_symbol_is.ensures ∙ c.if-next_symbol_is.false) read_2.eq)
-    ((c.put_row.ensures c.args.tokens.now read_2.stands.within).1 _ [] _ _ _ _ read_2.stands (record { few = tt; root = of_node; refs = (read_1.head, read_2.head, refl, refl) }))
+    let read_1 = taken (sooner (on_step _ _ c.iterate-s.ensures) c.expression.ensures) c.in_ok-condition.was in
+    let read_2 = taken (c.behind_sign.ensures.1 _ _ _ _ read_1.stands) c.in_ok-action.was in
+    by_eq (ended _ _ _ _ _ _ c.iterate-s.ensures read_1.eq (sym c.next_symbol_is.ensures ∙ c.if-next_symbol_is.false) read_2.eq)
+    ((c.put_row.ensures c.args.source.now.tokens.now read_2.stands.within).1 _ [] _ _ _ _ read_2.stands (record { few = tt; root = of_node; refs = (read_1.head, read_2.head, refl, refl) }))

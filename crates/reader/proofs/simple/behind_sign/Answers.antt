@@ -7,7 +7,7 @@ use Rattle.reader.proofs.simple.behind_sign.Goals as goal
 
 pub returns-then-not-next_is : goal.returns-then-not-next_is
 unfolding behind_sign
-returns-then-not-next_is c = (bounded_refused _ _, λ from slots zs left s. refuses _ _ _ (need_failed _ _ _ (sym c.next_is.ensures ∙ c.if-not-next_is.true)))
+returns-then-not-next_is c = (bounded_refused, λ from slots zs left s. refuses _ _ _ (need_failed _ _ _ (sym c.next_is.ensures ∙ c.if-not-next_is.true)) c.new.ensures)
 
 pub behind-requires : goal.behind-requires
 behind-requires c = (ready_step _ _ c.iterate-d.ensures (ready_step _ _ c.iterate.ensures c.requires.0), c.requires.1)

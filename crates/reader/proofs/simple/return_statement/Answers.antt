@@ -14,7 +14,7 @@ pub returns-then-next_symbol_is : goal.returns-then-next_symbol_is
 unfolding return
 returns-then-next_symbol_is c =
     by_eq (choose_true _ _ (sym c.next_symbol_is.ensures ∙ c.if-next_symbol_is.true)) (rw (← c.iterate-d.ensures)
-    ((c.put_row.ensures c.args.tokens.now (within_step _ _ c.iterate-d.ensures c.requires.within)).1 _ [] _ _ _ _ (stands_step _ _ c.iterate-d.ensures (at_once _ _ c.requires.within))
+    ((c.put_row.ensures c.args.source.now.tokens.now (within_step _ _ c.iterate-d.ensures c.requires.within)).1 _ [] _ _ _ _ (stands_step _ _ c.iterate-d.ensures (at_once _ _ c.requires.within))
     (record { few = tt; root = of_node; refs = (refl, refl, refl, refl) })))
 
 pub around-requires : goal.around-requires

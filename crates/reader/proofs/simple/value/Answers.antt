@@ -8,7 +8,7 @@ use Rattle.reader.proofs.simple.value.Goals as goal
 
 pub returns-then-not-current_symbol_is : goal.returns-then-not-current_symbol_is
 unfolding value
-returns-then-not-current_symbol_is c = rw (← c.iterate-d.ensures) (refuses _ _ _ (need_failed _ _ _ (sym c.current_symbol_is.ensures ∙ c.if-not-current_symbol_is.true)))
+returns-then-not-current_symbol_is c = rw (← c.iterate-d.ensures) (refuses _ _ _ (need_failed _ _ _ (sym c.current_symbol_is.ensures ∙ c.if-not-current_symbol_is.true)) c.new.ensures)
 
 pub around-requires : goal.around-requires
 around-requires c = (ready_step _ _ c.iterate-e.ensures (ready_step _ _ c.iterate-d.ensures c.requires), small c.requires)

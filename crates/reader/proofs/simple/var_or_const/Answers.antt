@@ -1,6 +1,5 @@
 -- `var_or_const` meets its contract: a name, and the value behind it or, but for const, none.
 use Rattle.std.proofs.Common.{[], ap, not, refl, sym, ◌∙◌}
-use borrow.Author.Tests.{eq-eqb, ne_eqb}
 use Rattle.reader.specs.Promises.{var_or_const}
 use Rattle.reader.specs.Meets.{of_node}
 use Rattle.reader.proofs.Answers.{at_once, by_eq, refuses, need_met, need_failed, choose_true, choose_false}
@@ -9,11 +8,11 @@ use Rattle.reader.proofs.simple.var_or_const.Goals as goal
 
 pub returns-then-not-is_identifier : goal.returns-then-not-is_identifier
 unfolding var_or_const
-returns-then-not-is_identifier c = refuses _ _ _ (need_failed _ _ _ (sym c.is_identifier.ensures ∙ c.if-not-is_identifier.true))
+returns-then-not-is_identifier c = refuses _ _ _ (need_failed _ _ _ (sym c.is_identifier.ensures ∙ c.if-not-is_identifier.true)) c.new.ensures
 
-pub returns-then-kind-eq-CONST : goal.returns-then-kind-eq-CONST
+pub returns-then-is_const : goal.returns-then-is_const
 unfolding var_or_const
-returns-then-kind-eq-CONST c = rw c.iterate-d.ensures (refuses _ _ _ (need_met _ _ _ (sym c.is_identifier.ensures ∙ c.if-not-is_identifier.false) ∙ choose_true _ _ (sym c.next_symbol_is.ensures ∙ c.if-next_symbol_is.true) ∙ need_failed _ _ _ (ap not (eq-eqb _ _ c.if-kind-eq-CONST.true))))
+returns-then-is_const c = refuses _ _ _ (need_met _ _ _ (sym c.is_identifier.ensures ∙ c.if-not-is_identifier.false) ∙ choose_true _ _ (sym c.next_symbol_is.ensures ∙ c.if-next_symbol_is.true) ∙ need_failed _ _ _ (ap not (sym c.is_const.ensures ∙ c.if-is_const.true))) (rw c.iterate-d.ensures at c.new-then-is_const.ensures)
 
 pub put_row-requires : goal.put_row-requires
 put_row-requires c = (c.requires.fits, small c.requires, small_in c.requires (within_step _ _ c.iterate-d.ensures c.requires.within))
@@ -21,12 +20,9 @@ put_row-requires c = (c.requires.fits, small c.requires, small_in c.requires (wi
 pub returns-then-next_symbol_is : goal.returns-then-next_symbol_is
 unfolding var_or_const
 returns-then-next_symbol_is c =
-    by_eq (need_met _ _ _ (sym c.is_identifier.ensures ∙ c.if-not-is_identifier.false) ∙ choose_true _ _ (sym c.next_symbol_is.ensures ∙ c.if-next_symbol_is.true) ∙ need_met _ _ _ (ap not (ne_eqb _ _ c.if-kind-eq-CONST.false))) (rw (← c.iterate-d.ensures)
-    ((c.put_row.ensures c.args.tokens.now (within_step _ _ c.iterate-d.ensures c.requires.within)).1 _ [] _ _ _ _ (stands_step _ _ c.iterate-d.ensures (at_once _ _ c.requires.within))
+    by_eq (need_met _ _ _ (sym c.is_identifier.ensures ∙ c.if-not-is_identifier.false) ∙ choose_true _ _ (sym c.next_symbol_is.ensures ∙ c.if-next_symbol_is.true) ∙ need_met _ _ _ (ap not (sym c.is_const.ensures ∙ c.if-is_const.false))) (rw (← c.iterate-d.ensures)
+    ((c.put_row.ensures c.args.source.now.tokens.now (within_step _ _ c.iterate-d.ensures c.requires.within)).1 _ [] _ _ _ _ (stands_step _ _ c.iterate-d.ensures (at_once _ _ c.requires.within))
     (record { few = tt; root = of_node; refs = (refl, refl, refl, refl) })))
-
-pub value-requires : goal.value-requires
-value-requires c = c.requires
 
 pub returns : goal.returns
 unfolding var_or_const

@@ -1,10 +1,6 @@
 -- `first_bad`: the loop keeps what `Sofar` says of the rows below.
-use Rattle.std.proofs.Common.{◌+◌, ◌-◌, ◌≤◌}
 use Rattle.trees.proofs.Firsts.{Sofar}
 use Rattle.trees.proofs.bad.first_bad.Given as goal
 
 abbrev pub invariant-loop-r : goal.invariant-loop-r
-invariant-loop-r l = Sofar l.pool l.root l.stands l.r × (l.r ≤ l.n + 1)
-
-abbrev pub decreases-loop-r : goal.decreases-loop-r
-decreases-loop-r l = l.n + 1 - l.r
+invariant-loop-r l = Sofar l.pool l.root l.stands l.r

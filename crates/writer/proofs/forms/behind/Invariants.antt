@@ -1,12 +1,9 @@
 -- No piece before j is for the word.
 use mathlib.Core.Path.{◌≡◌}
-use Prim.Native.Nat.{◌+◌, ◌-◌, ◌≤◌}
+use Prim.Native.Nat.{◌+◌}
 use lib.ListN.{drop}
 use Rattle.writer.specs.Codes as codes
 use Rattle.writer.proofs.forms.behind.Given as goal
 
 abbrev pub invariant-loop-j : goal.invariant-loop-j
-invariant-loop-j l = (codes.behind (codes.shape l.kind) l.k ≡ l.j + codes.behind (drop l.j (codes.shape l.kind)) l.k) × (l.j ≤ 8)
-
-abbrev pub decreases-loop-j : goal.decreases-loop-j
-decreases-loop-j l = 8 - l.j
+invariant-loop-j l = codes.behind (codes.shape l.kind) l.k ≡ l.j + codes.behind (drop l.j (codes.shape l.kind)) l.k

@@ -1,6 +1,5 @@
 -- `next_move` meets its contract: up, or onward.
 use borrow.Author.Tests.{eq-eqb, ne_eqb}
-use Rattle.writer.specs.Codes as codes
 use Rattle.writer.specs.Walk as w
 use Rattle.writer.proofs.moves.next_move.Goals as goal
 

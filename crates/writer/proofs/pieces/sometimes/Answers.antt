@@ -2,7 +2,6 @@
 use native.Mathlib.Omega.{arith}
 use mathlib.Core.Path.{◌≡◌}
 use Prim.Native.Nat.{◌/◌, ◌%◌}
-use Rattle.tokens.specs.Tokens.{word}
 use Rattle.grammar.specs.Words.{SEq, SDot, KElse, KFinally, KThread, KAsync}
 use Rattle.writer.specs.Codes as codes
 use Rattle.writer.specs.Walk as w

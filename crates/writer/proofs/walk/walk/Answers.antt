@@ -1,41 +1,26 @@
 -- `walk` meets its contract: `Going` holds at each turn.
-use native.Mathlib.Omega.{arith}
-use mathlib.Core.Path.{refl, ap, ◌∙◌}
-use Prim.Native.Nat.{◌*◌}
-use lib.ListN.{length}
+use Rattle.std.proofs.Common.{refl, arith}
 use Rattle.grammar.specs.Script.{rows}
-use Rattle.writer.specs.Ready.{Ready}
-use Rattle.writer.proofs.Fronts.{front_length}
-use Rattle.writer.proofs.Going.{Going, begun, placed, some_left, gone, arrived, few_so_far, small_row}
+use Rattle.writer.proofs.Going.{begun, placed, gone, arrived, no_more, few_so_far}
 use Rattle.writer.proofs.walk.walk.Goals as goal
 
-pub loop-at-init : goal.loop-at-init
-loop-at-init c = (c.requires.ready, begun c.args.pool.now c.args.root c.args.owners.now c.args.links.now c.requires.ready _ _ _ _ _ _ refl refl refl (ap (λ n. 10 * n) c.count-left.ensures) c.requires.words_value c.requires.places_value)
+pub overflow_mul-end : goal.overflow_mul-end
+unfolding rows
+overflow_mul-end g c = omega (arith, c.count-end.ensures)
 
-pub bounds-owners-row : goal.bounds-owners-row
-bounds-owners-row c = omega (arith, (placed c.args.pool.now c.args.root c.args.owners.now c.args.links.now c.loop-at.invariant.0 c.loop-at.invariant.1 c.loop-at-test.true).0, c.loop-at.invariant.0.wide)
-
-pub bounds-links-row : goal.bounds-links-row
-bounds-links-row c = omega (arith, (placed c.args.pool.now c.args.root c.args.owners.now c.args.links.now c.loop-at.invariant.0 c.loop-at.invariant.1 c.loop-at-test.true).0, c.loop-at.invariant.0.wide)
+pub loop-init : goal.loop-init
+loop-init g c = (c.requires.ready, begun _ _ _ _ c.requires.ready _ _ _ _ _ _ refl refl refl (omega (arith, c.count-end.ensures)) c.requires.words_value c.requires.places_value)
 
 pub turn-at-requires : goal.turn-at-requires
-turn-at-requires c = ((placed c.args.pool.now c.args.root c.args.owners.now c.args.links.now c.loop-at.invariant.0 c.loop-at.invariant.1 c.loop-at-test.true).1, few_so_far c.args.pool.now c.args.root c.args.owners.now c.args.links.now c.loop-at.invariant.0 c.loop-at.invariant.1)
+turn-at-requires g c =
+    let here = placed _ _ _ _ c.loop.invariant.0 c.loop.invariant.1 c.if-at-eq0.false in
+    (omega arith, (omega (arith, here.0), (here.1, few_so_far _ _ _ _ c.loop.invariant.0 c.loop.invariant.1)))
 
-pub loop-at-smaller : goal.loop-at-smaller
-loop-at-smaller c = omega (arith, some_left c.args.pool.now c.args.root c.args.owners.now c.args.links.now c.loop-at.invariant.0 c.loop-at.invariant.1 c.loop-at-test.true)
+pub loop-preserved : goal.loop-preserved
+loop-preserved g c = (c.loop.invariant.0, gone _ _ _ _ c.loop.invariant.0 _ _ _ (omega arith) c.loop.invariant.1 c.if-at-eq0.false c.turn-at.ensures)
 
-pub loop-at-preserved : goal.loop-at-preserved
-loop-at-preserved c = (c.loop-at.invariant.0, gone c.args.pool.now c.args.root c.args.owners.now c.args.links.now c.loop-at.invariant.0 _ _ _ c.loop-at.invariant.1 c.loop-at-test.true c.turn-at.ensures)
+pub returns-after-loop : goal.returns-after-loop
+returns-after-loop g c = arrived _ _ _ _ c.loop.invariant.0 c.args.words.now c.args.places.now c.loop.invariant.1 (no_more _ _ _ _ c.loop.invariant.0 c.loop.invariant.1 (omega arith)) refl refl
 
-pub returns : goal.returns
-returns c = arrived c.args.pool.now c.args.root c.args.owners.now c.args.links.now c.loop-at.invariant.0 c.args.words.now c.args.places.now c.loop-at.invariant.1 c.loop-at-test.false refl refl
-
-pub overflow_mul-left : goal.overflow_mul-left
-unfolding rows
-overflow_mul-left c = omega (arith, c.count-left.ensures)
-
-pub overflow_sub-left : goal.overflow_sub-left
-overflow_sub-left c = some_left c.args.pool.now c.args.root c.args.owners.now c.args.links.now c.loop-at.invariant.0 c.loop-at.invariant.1 c.loop-at-test.true
-
-pub offset_bounds-owners-row : goal.offset_bounds-owners-row
-offset_bounds-owners-row c = omega (arith, small_row c.args.pool.now c.args.root c.args.owners.now c.args.links.now c.loop-at.invariant.0 c.loop-at.invariant.1 c.loop-at-test.true)
+pub returns-then-at-eq0 : goal.returns-then-at-eq0
+returns-then-at-eq0 g c = arrived _ _ _ _ c.loop.invariant.0 c.args.words.now c.args.places.now c.loop.invariant.1 c.if-at-eq0.true refl refl

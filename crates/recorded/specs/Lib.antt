@@ -1,0 +1,2 @@
+-- What the contracts of `recorded` say.
+pub mod Numbers

@@ -1,2 +1,0 @@
--- What the contracts say on top of the definition of the language.
-pub mod Array
