@@ -6,5 +6,5 @@ use Rattle.answer.proofs.finish.Reads as finish
 pub check_determined : Determines check.Post (λ κs r left. r)
 check_determined κs args r r' left left' p q = cc
 
-pub finish_determined : Determines {A = _ × _} finish.Post (λ κs r left. (r, left.0.now))
-finish_determined κs args r r' left left' p q = cc
+pub finish_determined : (e : _) (l : _) → Determines {A = _ × _} (finish.Post e l) (λ κs r left. (r, left.0.now))
+finish_determined e l κs args r r' left left' p q = cc

@@ -46,12 +46,12 @@ checks ts at = both (array_good ts) (need (ltb at (length ts)) BadStart 0)
 abbrev pub start_of : Check → ℕ → Result ℕ Numbered
 start_of = checked
 
--- The answer to what a reader answers.
-abbrev pub ended : Read → Answer
+-- The answer to what a reader answers, whatever its refusals are.
+abbrev pub ended : {E : Type 0} → Result Piece E → Result Accepted E
 ended (Ok t) = Ok (accepted t.head t.rows t.next)
 ended (Err e) = Err e
 
 -- The pool after what a reader answers: zero after a refusal.
-abbrev pub ended_pool : Read → List ℕ → List ℕ
+abbrev pub ended_pool : {E : Type 0} → Result Piece E → List ℕ → List ℕ
 ended_pool (Ok t) ys = ys
 ended_pool (Err e) ys = replicate (length ys) 0

@@ -60,8 +60,8 @@ pub fn check(tokens: &[u16], start: usize) -> Result<Cursor, Refusal>
     of_place(tokens, start)
 }
 
-// The answer to what was read, with the pool zero again after a refusal.
-pub fn finish(pool: &mut [u32], r: Read) -> Answer
+// The answer to what was read, with the pool zero again after a refusal, of whatever type that is: it is handed on.
+pub fn finish<E>(pool: &mut [u32], r: Result<Piece, E>) -> Result<Accepted, E>
     ensures { (result ≡ ended r) × (pool.new ≡ ended_pool r pool.old) }
 {
     match r {

@@ -11,6 +11,8 @@ ghost use Rattle.four.specs.Answers.{over, file_words, fold_words, text_words};
 ghost use Rattle.trees.specs.Leaves.{front};
 ghost use Rattle.exports.specs.Trees.{Checks, Puts, Tells};
 
+use refusals::by_number;
+
 // Reads one expression from a start place, in strict mode or in the old one.
 pub fn shigthapul_one_expression(
     tokens: &[u16],
@@ -23,7 +25,7 @@ pub fn shigthapul_one_expression(
     ensures pool { pool.new ≡ spec.pool (length pool.old) (spec.one_expression (by (chosen strict)) tokens.now start (spec.rows (length pool.old))) }
 {
     let outcome = parser::one_expression(tokens, pool, start, modes::mode_of(strict));
-    four::put_answer(answer, outcome);
+    four::put_answer(answer, by_number(outcome));
 }
 
 // Reads one statement from a start place, in strict mode or in the old one.
@@ -38,7 +40,7 @@ pub fn shigthapul_one_statement(
     ensures pool { pool.new ≡ spec.pool (length pool.old) (spec.one_statement (by (chosen strict)) tokens.now start (spec.rows (length pool.old))) }
 {
     let outcome = parser::one_statement(tokens, pool, start, modes::mode_of(strict));
-    four::put_answer(answer, outcome);
+    four::put_answer(answer, by_number(outcome));
 }
 
 // Reads a whole script, in strict mode or in the old one.
@@ -47,7 +49,7 @@ pub fn shigthapul_whole_script(tokens: &[u16], pool: &mut [u32], strict: bool, a
     ensures pool { pool.new ≡ spec.pool (length pool.old) (spec.whole_script (by (chosen strict)) tokens.now (spec.rows (length pool.old))) }
 {
     let outcome = parser::whole_script(tokens, pool, modes::mode_of(strict));
-    four::put_answer(answer, outcome);
+    four::put_answer(answer, by_number(outcome));
 }
 
 // Reads a token file into a buffer of token words.
@@ -56,7 +58,7 @@ pub fn shigthapul_read_file(bytes: &[u8], words: &mut [u16], answer: &mut [u64])
     ensures words { words.new ≡ file_buffer bytes.now (length words.old) }
 {
     let fields = files::read(bytes, words);
-    four::put_count(answer, fields);
+    four::put_count(answer, by_number(fields));
 }
 
 // Folds a string's payload into the front of a work buffer.
@@ -65,7 +67,7 @@ pub fn shigthapul_fold(payload: &[u8], work: &mut [u8], answer: &mut [u64])
     ensures work { work.new ≡ fold_buffer payload.now work.old }
 {
     let folded = text::fold(payload, work);
-    four::put_count(answer, folded);
+    four::put_count(answer, by_number(folded));
 }
 
 // Says where the text of a string is, and how long.
@@ -93,7 +95,7 @@ pub fn shigthapul_check(pool: &[u32], root: usize, answer: &mut [u64])
         return;
     }
     let checked = trees::check_large(pool, root);
-    four::put_checked(answer, checked);
+    four::put_checked(answer, by_number(checked));
 }
 
 // The same of the front of a pool, with little stack whatever the pool.
@@ -101,7 +103,7 @@ pub fn shigthapul_check_small(pool: &[u32], root: usize, answer: &mut [u64])
     ensures { Checks (front pool.now) root answer.old answer.new }
 {
     let checked = trees::check_small(pool, root);
-    four::put_checked(answer, checked);
+    four::put_checked(answer, by_number(checked));
 }
 
 // Writes the tree at a root as token words, and the places of their payloads. It calls itself as the check does.
@@ -124,7 +126,7 @@ pub fn shigthapul_write(
         return;
     }
     let wrote = writer::write_large(pool, root, words, places);
-    four::put_count(answer, wrote);
+    four::put_count(answer, by_number(wrote));
 }
 
 // The same of the front of a pool, with little stack whatever the pool.
@@ -138,7 +140,7 @@ pub fn shigthapul_write_small(
     ensures { Puts (front pool.now) root words.old places.old answer.old words.new places.new answer.new }
 {
     let wrote = writer::write_small(pool, root, words, places);
-    four::put_count(answer, wrote);
+    four::put_count(answer, by_number(wrote));
 }
 
 // Writes the tree at a root as JSON, its payloads from the fields of a file. It calls itself as the check does.
@@ -155,7 +157,7 @@ pub fn shigthapul_json(pool: &[u32], root: usize, file: &[u8], text: &mut [u8], 
         return;
     }
     let told = json_writer::write_large(pool, root, file, text);
-    four::put_count(answer, told);
+    four::put_count(answer, by_number(told));
 }
 
 // The same of the front of a pool, with little stack whatever the pool.
@@ -169,5 +171,5 @@ pub fn shigthapul_json_small(
     ensures { Tells (front pool.now) root file.now text.old answer.old text.new answer.new }
 {
     let told = json_writer::write_small(pool, root, file, text);
-    four::put_count(answer, told);
+    four::put_count(answer, by_number(told));
 }

@@ -1,4 +1,4 @@
-// An answer as four words at the front of a slice.
+// An answer as four words at the front of a slice, a refusal by its number, whatever number that is.
 #![tactic(auto)]
 
 ghost use Rattle.std.specs.Prelude.{◌≡◌, [], ◌∷◌};
@@ -6,8 +6,8 @@ ghost use Rattle.refusals.specs.Refusal.{counted};
 ghost use Rattle.answer.specs.Answer.{numbers};
 ghost use Rattle.four.specs.Answers.{over, checked_words, text_words};
 
-use answer::{Accepted, Answer};
-use refusals::Refusal;
+use answer::Accepted;
+use refusals::ByNumber;
 
 // Writes four words into the front of a slice, as far as it goes.
 pub fn put(words: &mut [u64], first: u32, second: usize, third: usize, fourth: usize)
@@ -19,7 +19,7 @@ pub fn put(words: &mut [u64], first: u32, second: usize, third: usize, fourth: u
 }
 
 // Writes an answer that counts something: the fields of a file, the bytes of a text, the tokens of a tree.
-pub fn put_count(words: &mut [u64], outcome: Result<usize, Refusal>)
+pub fn put_count(words: &mut [u64], outcome: Result<usize, ByNumber>)
     ensures { words.new ≡ over (counted outcome) words.old }
 {
     match outcome {
@@ -29,7 +29,7 @@ pub fn put_count(words: &mut [u64], outcome: Result<usize, Refusal>)
 }
 
 // Writes what a check answers.
-pub fn put_checked(words: &mut [u64], checked: Result<(), Refusal>)
+pub fn put_checked(words: &mut [u64], checked: Result<(), ByNumber>)
     ensures { words.new ≡ over (checked_words checked) words.old }
 {
     match checked {
@@ -39,7 +39,7 @@ pub fn put_checked(words: &mut [u64], checked: Result<(), Refusal>)
 }
 
 // Writes what an entry answers.
-pub fn put_answer(words: &mut [u64], outcome: Answer)
+pub fn put_answer(words: &mut [u64], outcome: Result<Accepted, ByNumber>)
     ensures { words.new ≡ over (numbers outcome) words.old }
 {
     match outcome {

@@ -5,6 +5,7 @@ use Rattle.grammar.specs.Once.{Determines}
 use Rattle.json_values.specs.declared.output.Out.{Out}
 use Rattle.json_values.proofs.Puts.{one_puts}
 use Rattle.json_values.proofs.output.Out.new.Reads as new
+use Rattle.json_values.proofs.output.Out.begin_at.Reads as begin-at
 use Rattle.json_values.proofs.output.Out.place.Reads as place
 use Rattle.json_values.proofs.output.Out.put_byte.Reads as put-byte
 use Rattle.json_values.proofs.output.Out.put_bytes.Reads as put-bytes
@@ -17,6 +18,9 @@ is o = (o.bytes.now, o.at)
 
 pub new_determined : Determines {A = List ℕ × ℕ} new.Post (λ κs r left. is r)
 new_determined κs args r r' left left' p q = cc
+
+pub begin_at_determined : Determines {A = List ℕ × ℕ} begin-at.Post (λ κs r left. is r)
+begin_at_determined κs args r r' left left' p q = cc
 
 pub place_determined : Determines place.Post (λ κs r left. r)
 place_determined κs args r r' left left' p q = cc

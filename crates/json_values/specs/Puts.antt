@@ -22,8 +22,12 @@ pub record Puts (text : List ℕ) (old new : Out) (result : Result ⊤ Reason) :
   pub place : new.at ≡ old.at + min (length text) (room old)
   pub told : Told text (room old) result
 
--- The front of a slice that is lent.
-pub record Begins (lent : MutBor (List ℕ)) (new : Out) : Type 0 where
+-- A place of a slice that is lent.
+pub record BeginsAt (lent : MutBor (List ℕ)) (at : ℕ) (new : Out) : Type 0 where
   pub same_slice : new.bytes.ghost_name ≡ lent.ghost_name
   pub bytes : new.bytes.now ≡ lent.now
-  pub place : new.at ≡ 0
+  pub place : new.at ≡ at
+
+-- The front of a slice that is lent.
+abbrev pub Begins : (lent : MutBor (List ℕ)) (new : Out) → Type 0
+Begins lent new = BeginsAt lent 0 new

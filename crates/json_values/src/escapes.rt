@@ -37,7 +37,8 @@ impl Out<'_> {
         self.put_byte(digit(b % 16))
     }
 
-    // Puts a backslash and a letter.
+    // Puts a backslash and a letter. It stands alone, as `put_long` does, which keeps `put_escape` short.
+    #[inline(never)]
     fn put_short(&mut self, letter: u8) -> Result<(), Reason>
         ensures { Puts (0x5C ∷ letter ∷ []) self.old self.new result }
     {
@@ -46,6 +47,7 @@ impl Out<'_> {
     }
 
     // Puts the escape of a byte by its number.
+    #[inline(never)]
     fn put_long(&mut self, b: u8) -> Result<(), Reason>
         ensures { Puts (letters "\\u00" ++ (hex (b / 16) ∷ hex (b % 16) ∷ [])) self.old self.new result }
     {

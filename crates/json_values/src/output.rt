@@ -1,12 +1,23 @@
-// A lent slice that is filled from the front: bytes, and a number's digits, put behind what is there.
-ghost use Rattle.std.specs.Prelude.{◌≡◌, [], ◌∷◌};
+// A lent slice that is filled from the front, or from a place: bytes, and a number's digits, put behind what is there.
+ghost use Rattle.std.specs.Prelude.{◌≡◌, [], ◌∷◌, length};
 ghost use Rattle.lines.specs.Decimal.{decimal};
-ghost use Rattle.json_values.specs.Puts.{Puts, Begins};
+ghost use Rattle.json_values.specs.Puts.{Puts, Begins, BeginsAt};
 
 use lines::DIGITS;
 use refusals::Reason;
 
-// The slice, and the place for its next byte.
+// Copies bytes over a slice: by a loop, of which the compiler makes no call of `memmove`, which whoever links the archive would have to bring.
+#[inline(always)]
+fn copy(to: &mut [u8], bytes: &[u8])
+    requires { length to.old ≡ length bytes.now }
+    ensures { to.new ≡ bytes.now }
+{
+    for i in 0..bytes.len() {
+        to[i] = bytes[i];
+    }
+}
+
+// The slice, and the place for its next byte, which is anywhere.
 #[derive(Drop)]
 pub struct Out<'a> {
     bytes: &'a mut [u8],
@@ -21,7 +32,14 @@ impl<'a> Out<'a> {
         Out { bytes, at: 0 }
     }
 
-    // The place for the next byte: how many have been put.
+    // Begins at a place of a slice. It may lie behind the end: there is room for no byte then.
+    pub fn begin_at(bytes: &'a mut [u8], at: usize) -> Out<'a>
+        ensures { BeginsAt bytes.entry at result }
+    {
+        Out { bytes, at }
+    }
+
+    // The place for the next byte: of a slice that was begun at the front, how many have been put.
     pub fn place(&self) -> usize
         ensures { result ≡ self.now.at }
     {
@@ -41,12 +59,16 @@ impl<'a> Out<'a> {
     }
 
     // Puts bytes, as many as there is room for: at once where that is all of them.
+    #[inline(always)]
     pub fn put_bytes(&mut self, bytes: &[u8]) -> Result<(), Reason>
         ensures { Puts bytes.now self.old self.new result }
     {
+        if bytes.len() == 0 {
+            return Ok(());
+        }
         if self.at <= self.bytes.len() && bytes.len() <= self.bytes.len() - self.at {
             let end = self.at + bytes.len();
-            self.bytes[self.at..end].copy_from_slice(bytes);
+            copy(&mut self.bytes[self.at..end], bytes);
             self.at = end;
             return Ok(());
         }

@@ -7,7 +7,8 @@ ghost use Rattle.lines.specs.Decimal.{decimal, most_digits};
 ghost use Rattle.lines.specs.Lines.{line, first_line, row_words, row_line, places, longest};
 ghost use Rattle.lines.specs.Writes.{Writes};
 
-use answer::Answer;
+use answer::Accepted;
+use refusals::ByNumber;
 use rows::WIDTH;
 
 // The most digits of a number: a buffer of so many bytes is long enough for any.
@@ -79,8 +80,8 @@ fn put_line(word: &[u8], numbers: &[u64], out: &mut [u8]) -> usize
     put(&buf[at..], out)
 }
 
-// Writes the first line of an answer.
-pub fn first_line(answer: Answer, out: &mut [u8]) -> usize
+// Writes the first line of an answer, whatever number a refusal has.
+pub fn first_line(answer: Result<Accepted, ByNumber>, out: &mut [u8]) -> usize
     ensures written { Writes (first_line answer) out.old result out.new }
     ensures short { length (first_line answer) ≤ longest }
 {

@@ -52,7 +52,7 @@ pub fn is_infix(t: Token) -> bool
     let Token::Operator(s) = t else {
         return false;
     };
-    (INFIXES >> u8::from(s)) & 1 == 1
+    (INFIXES >> tokens::symbol_code(s)) & 1 == 1
 }
 
 // The mark of an infix operator, 0 for any other token, as its clause has it: parse_infix_expression.

@@ -9,6 +9,7 @@ ghost use Rattle.outline.specs.Outlined.{outlined};
 use answer::Answer;
 use lines::LINE;
 use modes::Mode;
+use refusals::by_number;
 use rows::WIDTH;
 use std::io;
 
@@ -25,8 +26,11 @@ const POOL: usize = WIDTH * ROWS;
 fn read(bytes: &[u8], tokens: &mut [u16], pool: &mut [u32]) -> Answer
     ensures { whole-text result pool.new ≡ outlined bytes.now (length tokens.old) (length pool.old) }
 {
-    let n = files::read(bytes, tokens)?;
-    parser::whole_script(&tokens[..n], pool, Mode::Old)
+    match files::read(bytes, tokens) {
+        Ok(n) => parser::whole_script(&tokens[..n], pool, Mode::Old),
+        // No `?`: the edit `file_place` changes this arm.
+        Err(refusal) => Err(refusal),
+    }
 }
 
 // How many rows an answer uses.
@@ -45,7 +49,7 @@ fn line(answer: &Answer, pool: &[u32], i: usize, out: &mut [u8]) -> usize
     ensures { (result ≤ longest) × (take result out.new ≡ get_or (text-lines answer.now pool.now) i []) }
 {
     if i == 0 {
-        lines::first_line(*answer, out)
+        lines::first_line(by_number(*answer), out)
     } else {
         lines::row_line(pool, i, out)
     }

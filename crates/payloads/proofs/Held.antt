@@ -1,4 +1,4 @@
--- What a file holds: words, no more of them than it has bytes, or a refusal; and what is answered by it.
+-- What a file holds: words, no more of them than it has bytes, or refusal 6 at place 0, or 5 or 33 at the number of a field; and what is answered by it.
 use mathlib.Core.Path.{◌≡◌, refl, ◌∙◌}
 use mathlib.Core.Bool.{Bool, true, false, cond}
 use mathlib.Core.List.{List, [], ◌∷◌}
@@ -9,18 +9,31 @@ use lib.Dec.{leb}
 use lib.ListN.{length}
 use Rattle.std.specs.Prelude.{Result, Ok, Err}
 use Rattle.refusals.specs.declared.Reason.{Reason}
+use Rattle.refusals.specs.declared.Reason.TheVariants.{BadField, NotUnicode}
+use Rattle.refusals.specs.Reasons.{number as number_of}
 use Rattle.refusals.specs.Refusal.{Numbered, refusal}
 use Rattle.fields.specs.declared.Field.{Field}
 use Rattle.fields.specs.Field.{first}
 use Rattle.files.specs.File.{Content, read, refused, TooLong, most, before, fields}
 use Rattle.files.specs.Entry.{within, content, answered}
+use Rattle.files.proofs.Good.{bad_field as bad}
 use Rattle.files.proofs.Pass.{good_next, bad_next}
 use Rattle.payloads.specs.Index.{held}
 
--- words, no more than so many, or a refusal
+-- the refusals by number and place
+pub data Refusal : (number place : ℕ) → Type 0 where
+  too_long : Refusal TooLong 0
+  bad_field : (number : ℕ) → Refusal (number_of BadField) number
+  not_unicode : (number : ℕ) → Refusal (number_of NotUnicode) number
+
+-- a bad field's is one of two
+refused_field : (part : List ℕ) {r : Reason} → first part ≡ Err r → (number : ℕ) → Refusal (number_of r) number
+refused_field part e number = bad part (λ r. Refusal (number_of r) number) (bad_field number) (not_unicode number) e
+
+-- words, no more than so many, or one of the refusals
 abbrev pub Given : (room : ℕ) → Content → Type 0
 Given room (read words) = length words ≤ room
-Given room (refused number place) = Unit
+Given room (refused number place) = Refusal number place
 
 before_given : (room w : ℕ) (c : Content) → Given room c → Given (suc room) (before w c)
 unfolding before
@@ -35,7 +48,7 @@ fields_given (suc bound) number (b ∷ bytes) = go (first (b ∷ bytes)) refl (f
   where
     go : (r : Result Field Reason) → first (b ∷ bytes) ≡ r → ((rest : List ℕ) → Given bound (fields bound (suc number) rest)) → Given (suc bound) (fields (suc bound) number (b ∷ bytes))
     go (Ok f) e k = rw (good_next bound number (b ∷ bytes) (omega arith) e) (before_given bound f.word _ (k _))
-    go (Err r) e k = rw (bad_next bound number (b ∷ bytes) (omega arith) e) tt
+    go (Err r) e k = rw (bad_next bound number (b ∷ bytes) (omega arith) e) (refused_field (b ∷ bytes) e number)
 
 within_given : (room : ℕ) (c : Content) → Given room c → Given room (within room c)
 unfolding within
@@ -49,7 +62,7 @@ held_given bytes = go (leb (length bytes) most)
   where
     go : (t : Bool) → Given (length bytes) (cond t (within (length bytes) (fields (length bytes) 0 bytes)) (refused TooLong 0))
     go true = within_given (length bytes) _ (fields_given (length bytes) 0 bytes)
-    go false = tt
+    go false = too_long
 
 -- where a count is answered, it is that of the words that the file holds
 pub record Counted (bytes : List ℕ) (count : ℕ) : Type 0 where

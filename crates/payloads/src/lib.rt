@@ -33,9 +33,14 @@ pub fn index(file: &[u8], starts: &mut [u16; FIELDS]) -> Result<usize, Refusal>
     ensures answer { result ≡ answered (held file.now) }
     ensures starts { starts.new ≡ laid file.now (held file.now) }
 {
-    let count = files::read(file, starts)?;
-    lay(file, count, starts);
-    Ok(count)
+    match files::read(file, starts) {
+        Ok(count) => {
+            lay(file, count, starts);
+            Ok(count)
+        }
+        // No `?`: the edit `place_lost` changes this arm.
+        Err(refusal) => Err(refusal),
+    }
 }
 
 // Where the field with a number begins by an index: 0 behind its end.

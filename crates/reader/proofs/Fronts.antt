@@ -1,10 +1,10 @@
 -- Rows at the front of a part.
 use mathlib.Core.Path.{◌≡◌, sym, ap, ◌∙◌}
 use mathlib.Core.List.{List, ◌++◌, append_assoc}
-use Prim.Native.Nat.{ℕ, ◌+◌, ◌*◌, ◌≤◌}
+use Prim.Native.Nat.{ℕ, ◌+◌, ◌*◌, ◌≤◌, ◌<◌}
 use native.Mathlib.Omega.{arith}
-use lib.ListN.{length, take, drop, length-append, length-drop}
-use lib.Seq.{take_at, drop-drop, drop-append-add}
+use lib.ListN.{length, take, drop, set, length-append, length-drop, length-set}
+use lib.Seq.{set-append_left, take_at, drop-drop, drop-append-add}
 use Rattle.reader.specs.Meets.{Front}
 use Rattle.grammar.specs.Tree.{width}
 
@@ -35,3 +35,12 @@ front_more {p} {k} {xs} {ys} {zs} q j h l le e =
 -- The front may be put as another.
 pub front_eq : {p q : List ℕ} {k : ℕ} {xs ys : List ℕ} → p ≡ q → Front p k xs ys → Front q k xs ys
 front_eq e h = rw e at h
+
+-- A store into the front.
+pub front_set : {p : List ℕ} {k : ℕ} {xs ys : List ℕ} (i v : ℕ) → Front p k xs ys → i < width * k → Front (set p i v) k xs (set ys i v)
+front_set {p} {k} {xs} {ys} i v h lt =
+    record {
+      laid = ap (λ (w : List ℕ). set w i v) h.laid ∙ set-append_left p (drop (width * k) xs) i v (omega (arith, h.long));
+      long = length-set p i v ∙ h.long;
+      fit = h.fit;
+    }

@@ -196,6 +196,7 @@ fn item(
 // An item behind the first `rows` rows of the part. `actual` and, of statements, `one_behind` and `block_behind` do the same for other readers: they
 // stay four functions, since a cycle of calls gets no proof through a closure.
 #[cycle(expressions)]
+#[inline(always)]
 pub fn behind(
     source: &Source,
     pool: &mut [u32],

@@ -3,6 +3,7 @@ use Rattle.std.specs.Prelude.{◌≡◌, refl}
 use Rattle.refusals.specs.declared.Reason.{Reason}
 use Rattle.refusals.specs.declared.Reason.TheVariants.{BadArray, TooDeep, NoRoom, BadStart, BadField, TooLong, InvalidSyntax, InvalidToken, InvalidSymbol, NotImplemented, InvalidIdentifier, AssertWithoutAction, AssertWithoutComma, FuncWithoutName, IfWithoutBody, ConstWithoutValue, ExpectedEq, ExpectedColon, NoParameters, ExpectedArrow, HashNotTerminated, ArrayNotTerminated, NotCallable, TryWithoutCatch, BreakWithoutSemicolon, ContinueWithoutSemicolon, WrongSign, TooShort, NotUnicode, TreeTooDeep, NoTree}
 use Rattle.refusals.specs.declared.Refusal.TheInside.{Inside}
+use Rattle.refusals.specs.declared.numbered.ByNumber.TheInside as by
 use Rattle.refusals.specs.Reasons.{number, reason}
 use Rattle.refusals.specs.Refusal.{Numbered, refusal}
 
@@ -50,3 +51,13 @@ reason_number NoTree = refl
 
 pub inside_seen : (a : Inside) → inside (seen a) ≡ a
 inside_seen a = rw (reason_number a.reason) refl
+
+-- A refusal by its number, as it stands, and the one that is seen so.
+abbrev pub told : by.Inside → Numbered
+told a = refusal a.number a.place
+
+abbrev pub untold : Numbered → by.Inside
+untold n = record { number = n.number; place = n.place }
+
+pub untold_told : (a : by.Inside) → untold (told a) ≡ a
+untold_told a = refl

@@ -1,10 +1,13 @@
 // Refusals: why something is refused, and where.
 #![tactic(auto)]
 
+mod numbered;
+
 ghost use Rattle.std.specs.Prelude.{◌≡◌};
 ghost use Rattle.refusals.specs.Reasons.{number};
 ghost use Rattle.refusals.specs.Refusal.{refusal};
 
+pub use numbered::{ByNumber, by_number};
 use std::marker::Model;
 
 // Why something is refused, by the number that callers are told.

@@ -1,12 +1,20 @@
 // A recorded case: in the stream its head is followed by the tokens, its record and the rows of that.
 use answer::Answer;
 use recorded::{Number, fill};
+use refusals::by_number;
 use rows::WIDTH;
 
 // The bytes of a head, and those of a record before its rows.
 pub const HEAD: usize = 10;
 
 pub const RECORD: usize = 20;
+
+// The bytes of a head and of a record.
+#[derive(Clone, Copy, Debug, PartialEq, Eq)]
+pub struct Front {
+    pub head: [u8; HEAD],
+    pub record: [u8; RECORD],
+}
 
 // The head: the entry, the start place, the pool's length and the number of tokens.
 #[derive(Clone, Copy, Debug, PartialEq, Eq)]
@@ -59,7 +67,7 @@ impl Record {
     // Whether an answer is the recorded one, and the record says that the pool is zero behind the used rows.
     pub fn is(&self, answer: Answer) -> bool {
         let mut words = [0; 4];
-        four::put_answer(&mut words, answer);
+        four::put_answer(&mut words, by_number(answer));
         self.clean == 1 && words == self.answer.map(u64::from)
     }
 }

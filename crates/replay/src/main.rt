@@ -4,7 +4,7 @@
 mod case;
 
 use answer::Answer;
-use case::{Case, HEAD, Head, RECORD, Record};
+use case::{Case, Front, HEAD, Head, RECORD, Record};
 use modes::mode_of;
 use recorded::{fill, holds, read};
 use rows::{MOST, WIDTH};
@@ -71,23 +71,25 @@ fn say(out: &impl Print, case: u64, verdict: Verdict) -> io::Result<()> {
     }
 }
 
-// Reads the next case, and its tokens; none if the stream ends before. That it ends in the middle of the case is said.
+// Reads the next case, and its tokens; none if the stream ends before. That it ends in the middle of the case is said. A head and a record are read
+// over those of the case before, each into bytes of its own: a terminal may end in a head and then go on.
 fn take(
     source: &mut impl Read,
     out: &impl Print,
+    front: &mut Front,
     part: &mut [u8; PART],
     tokens: &mut [u16; TOKENS],
     number: u64,
 ) -> io::Result<Option<Case>> {
-    let got = input::read_full(source, &mut part[..HEAD])?;
-    let head = Head::of(part);
+    let got = input::read_full(source, &mut front.head)?;
+    let head = Head::of(&front.head);
     let count = head.count as usize;
     let has_tokens = read(source, part, 2 * count)?;
     fill(&mut tokens[..count], part);
-    let has_record = read(source, part, RECORD)?;
-    let record = Record::of(part);
+    let has_record = read(source, &mut front.record, RECORD)?;
+    let record = Record::of(&front.record);
     let has_rows = read(source, part, record.row_bytes())?;
-    if got == HEAD && has_tokens && has_record && has_rows {
+    if has_tokens && has_record && has_rows {
         return Ok(Some(Case { head, record }));
     }
     if 0 < got {
@@ -108,8 +110,12 @@ fn replay_all(
     let mut replayed = 0u64;
     let mut differing = 0u64;
     let mut skipped = 0u64;
+    let mut front = Front {
+        head: [0; HEAD],
+        record: [0; RECORD],
+    };
     for number in 0..u64::MAX {
-        let Some(case) = take(source, out, part, tokens, number)? else {
+        let Some(case) = take(source, out, &mut front, part, tokens, number)? else {
             break;
         };
         let verdict = replay(&case, part, &tokens[..case.head.count as usize], pool);

@@ -12,7 +12,7 @@ ghost use Rattle.to_json.specs.Shown.{outcome, no, ShowsTree, most, Shows};
 
 use answer::{Accepted, Answer};
 use modes::Mode;
-use refusals::Refusal;
+use refusals::{Refusal, by_number};
 use rows::WIDTH;
 use std::io;
 
@@ -43,7 +43,7 @@ fn refuse(refusal: Refusal, out: &mut [u8]) -> usize
     requires { longest ≤ length out.old }
     ensures { (result ≤ length out.old) × (take result out.new ≡ no refusal.number refusal.place) }
 {
-    lines::first_line(Err(refusal), out)
+    lines::first_line(by_number(Err(refusal)), out)
 }
 
 // The text of a tree and a newline in front of a buffer, or the line of the writer's refusal; its length.

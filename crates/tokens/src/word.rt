@@ -84,7 +84,7 @@ impl From<Token> for u16 {
     }
 }
 
-// The two conversions by name, for `writer`.
+// The two conversions by name: what reads tokens and writes them goes by these.
 pub fn token_of(word: u16) -> Token
     ensures { result ≡ token word }
 {

@@ -3,7 +3,7 @@ ghost use Rattle.std.specs.Prelude.{◌≡◌};
 ghost use Rattle.grammar.specs.Words.{Identifier, tok, step, is, next_is};
 ghost use Rattle.tokens.specs.Tokens.{token, word};
 
-use tokens::{Keyword, Symbol, Token};
+use tokens::{Keyword, Symbol, Token, token_of, word_of};
 
 // A place in an array of token words.
 pub type Cursor = usize;
@@ -23,7 +23,7 @@ fn word_at(tokens: &[u16], c: Cursor) -> u16
 pub fn current(tokens: &[u16], c: Cursor) -> Token
     ensures { result ≡ token (tok tokens.now c) }
 {
-    Token::from(word_at(tokens, c))
+    token_of(word_at(tokens, c))
 }
 
 // The cursor one token on, never past the last. The first test keeps the sum in range; one test alone, against the last place, was no faster.
@@ -50,7 +50,7 @@ pub fn next(tokens: &[u16], c: Cursor) -> Token
 pub fn current_is(tokens: &[u16], c: Cursor, t: Token) -> bool
     ensures { result ≡ is tokens.now c (word t) }
 {
-    word_at(tokens, c) == u16::from(t)
+    word_at(tokens, c) == word_of(t)
 }
 
 // Whether the next token is this one.

@@ -102,8 +102,8 @@ pub fn sign(b: u8) -> Token
     ensures { result ≡ token (sign_word b) }
 {
     if b < 128 {
-        Token::from(1984 + b as u16)
+        tokens::token_of(1984 + b as u16)
     } else {
-        Token::from(2176 + b as u16)
+        tokens::token_of(2176 + b as u16)
     }
 }

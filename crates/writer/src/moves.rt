@@ -61,6 +61,7 @@ fn along(pool: &[u32], r: usize) -> Move
 
 // Up from a row by its link: EOF behind the root, back in a list, or behind the slot in which its list stands.
 #[tactic(auto, unfolding(crate::specs::Walk::up))]
+#[inline(always)]
 fn up(pool: &[u32], root: usize, owner: usize, word: usize) -> Move
     ensures { w.moved result ≡ w.up pool.now root owner word }
 {
@@ -73,6 +74,7 @@ fn up(pool: &[u32], root: usize, owner: usize, word: usize) -> Move
 
 // What comes after a piece of a row.
 #[tactic(auto, using(crate::proofs::Spelling::after_slot, crate::proofs::Spelling::after_last))]
+#[inline(always)]
 fn onward(pool: &[u32], root: usize, r: usize, j: usize) -> Move
     requires { j < 100 }
     ensures { w.moved result ≡ w.onward pool.now r j (drop j (shape (w.shown pool.now root r))) }
@@ -89,6 +91,7 @@ fn onward(pool: &[u32], root: usize, r: usize, j: usize) -> Move
 }
 
 // One step from a piece of a row, which a word of its owner leads to.
+#[inline(always)]
 pub fn next_move(pool: &[u32], root: usize, r: usize, j: usize, owner: usize, word: usize) -> Move
     requires { j < 100 }
     ensures { w.moved result ≡ w.move pool.now root r j owner word }

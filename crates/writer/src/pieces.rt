@@ -96,7 +96,7 @@ fn always(pool: &[u32], r: usize, b: u8) -> Act
         8 => Act::Put(prefix_sign(mark), 0),
         9 => Act::Put(suffix_sign(mark), 0),
         _ => Act::Put(
-            Token::from(b as u16 * 256),
+            tokens::token_of(b as u16 * 256),
             rows::word(pool, r, rows::PLACE),
         ),
     }

@@ -46,7 +46,7 @@ fn turn<const N: usize>(
     let word = links.words[at.row] as usize;
     match moves::next_move(pool, root, at.row, at.piece, owner, word) {
         Move::Put(token, place, row, piece) => {
-            put_at(words, count, u16::from(token));
+            put_at(words, count, tokens::word_of(token));
             put_at(places, count, place);
             At {
                 row,

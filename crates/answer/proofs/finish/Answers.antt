@@ -3,7 +3,7 @@ use Rattle.std.proofs.Common.{refl}
 use Rattle.answer.proofs.finish.Goals as goal
 
 pub returns-in-Ok : goal.returns-in-Ok
-returns-in-Ok c = rw (c.in-Ok.is, c.from.ensures) (refl, refl)
+returns-in-Ok g c = rw (c.in-Ok.is, c.from.ensures) (refl, refl)
 
 pub returns-in-Err : goal.returns-in-Err
-returns-in-Err c = rw c.in-Err.is (refl, c.clear.ensures)
+returns-in-Err g c = rw c.in-Err.is (refl, c.clear.ensures)

@@ -19,4 +19,4 @@ pub returns-then-pool-end : goal.returns-then-pool-end
 returns-then-pool-end t c = rw (whole_front c.args.pool.now (omega (arith, c.if-pool-end.true, c.end.ensures))) at c.shigthapul_check_small.ensures
 
 pub returns : goal.returns
-returns t c = record { answer = _; verdict = c.check_large-checked.ensures; four = c.put_checked.ensures ∙ ap (λ (ws : List ℕ). over ws c.args.answer.now) (same_words _) }
+returns t c = record { answer = _; verdict = c.check_large-checked.ensures; four = (rw c.by_number.ensures at c.put_checked.ensures) ∙ ap (λ (ws : List ℕ). over ws c.args.answer.now) (same_words _) }

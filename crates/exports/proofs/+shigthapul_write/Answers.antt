@@ -15,4 +15,4 @@ pub returns-then-pool-end : goal.returns-then-pool-end
 returns-then-pool-end t c = rw (whole_front c.args.pool.now (omega (arith, c.if-pool-end.true, c.end.ensures))) at c.shigthapul_write_small.ensures
 
 pub returns : goal.returns
-returns t c = record { answer = _; writes = c.write_large-wrote.ensures; four = c.put_count.ensures }
+returns t c = record { answer = _; writes = c.write_large-wrote.ensures; four = rw c.by_number.ensures at c.put_count.ensures }

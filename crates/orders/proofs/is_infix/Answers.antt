@@ -35,4 +35,4 @@ told bits h s = alike _ _ (under (right bits) 41 h (symbol_code s) (ltb-true _ _
 
 pub returns : goal.returns
 unfolding class code by_code infixes infix_of
-returns c = rw (c.from.ensures, c.in-Operator.is) (told _ refl c.in-Operator.s)
+returns c = rw (c.symbol_code.ensures, c.in-Operator.is) (told _ refl c.in-Operator.s)

@@ -6,7 +6,7 @@ use Rattle.outline.proofs.line.Goals as goal
 pub returns-then-i-eq0 : goal.returns-then-i-eq0
 returns-then-i-eq0 c =
     let w = written_whole c.first_line.ensures.written (omega (arith, c.first_line.ensures.short, c.requires)) in
-    (omega (arith, w.0, c.first_line.ensures.short), w.1 ∙ rw c.if-i-eq0.true)
+    (omega (arith, w.0, c.first_line.ensures.short), w.1 ∙ rw (c.by_number.ensures, c.if-i-eq0.true))
 
 pub returns-else-i-eq0 : goal.returns-else-i-eq0
 returns-else-i-eq0 c =

@@ -24,4 +24,4 @@ unfolding codes.decoded codes.low
 returns-in-9 c = mark_done c.args.pool.now c.args.r c.args.b suffix_signs c.suffix_sign.result c.word.result (rw c.in-9.is) c.suffix_sign.ensures c.word.ensures
 
 pub returns-in_default : goal.returns-in_default
-returns-in_default c = let p = payload_number c.args.b (omega arith) (omega arith) in payload_done c.args.pool.now c.args.r c.args.b c.from.result c.word-in_default.result p.0 (ap word c.from.ensures ∙ p.1) c.word-in_default.ensures
+returns-in_default c = let p = payload_number c.args.b (omega arith) (omega arith) in payload_done c.args.pool.now c.args.r c.args.b c.token_of.result c.word-in_default.result p.0 (ap word c.token_of.ensures ∙ p.1) c.word-in_default.ensures

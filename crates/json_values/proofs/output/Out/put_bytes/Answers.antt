@@ -1,11 +1,12 @@
 -- `put_bytes` meets its contract: all bytes at once where there is room for them, and one more each turn where not.
 use Rattle.std.proofs.Common.{◌≡◌, refl, ◌+◌, length, drop, add-one, arith, take-append-drop}
 use lib.Seq.{take-suc, take-length}
+use Rattle.std.proofs.lemmas.List.{nil_from_length}
 use Rattle.json_values.proofs.Puts.{puts_none, puts_part, puts_append, puts_stop, handed_on}
 use Rattle.json_values.proofs.output.Out.put_bytes.Goals as goal
 
 pub returns-then-bytes-self : goal.returns-then-bytes-self
-returns-then-bytes-self c = puts_part c.copy_from_slice.new.self _ refl refl refl c.copy_from_slice.ensures.after (omega arith) (omega arith)
+returns-then-bytes-self c = puts_part c.copy.new.to _ refl refl refl c.copy.ensures (omega arith) (omega arith)
 
 pub loop-b-init : goal.loop-b-init
 loop-b-init c = puts_none
@@ -25,3 +26,6 @@ pub returns : goal.returns
 returns c =
     let whole : c.loop-b.b-index ≡ length c.args.bytes.now = omega arith in
     rw (whole, take-length) at c.loop-b.invariant
+
+pub returns-then-bytes-eq0 : goal.returns-then-bytes-eq0
+returns-then-bytes-eq0 c = rw (nil_from_length c.args.bytes.now (omega arith)) puts_none
