@@ -77,17 +77,27 @@ fn rattle_source() -> String {
 #[test]
 fn the_rattle_source_has_the_same_numbers() {
     let source = rattle_source();
-    let variants: Vec<(String, u32)> = source.lines().filter_map(variant).collect();
-    let known = members!(Reason).into_iter().chain(members!(Kind));
-    for (name, number, _) in known {
+    let reasons = variants(&source, "Reason");
+    for (name, number, _) in members!(Reason) {
         // Two refusals have other names there.
         let name = match name.as_str() {
             "deeptree" => "treetoodeep",
             "norow" => "noroom",
             name => name,
         };
-        assert!(variants.contains(&(name.to_string(), number)), "{} {}", name, number);
+        assert!(reasons.contains(&(name.to_string(), number)), "{} {}", name, number);
     }
+    let kinds = variants(&source, "Kind");
+    for (name, number, _) in members!(Kind) {
+        assert!(kinds.contains(&(name.clone(), number)), "{} {}", name, number);
+    }
+}
+
+/// The variants of an enum of the Rattle source, with their numbers: of that enum alone, as a name may stand in another too.
+fn variants(source: &str, of: &str) -> Vec<(String, u32)> {
+    let start = format!("enum {} {{\n", of);
+    let (_, behind) = source.split_once(&start).unwrap_or_else(|| panic!("no enum {}", of));
+    behind.lines().take_while(|line| *line != "}").filter_map(variant).collect()
 }
 
 /// The name and number of a line `    Name = 1,`.
